@@ -1,0 +1,64 @@
+-- Whether ascending dots can be joined one by one, told without a change to the clock: only the row of the actor at hand is kept.
+use Prim.Native.Nat.{ℕ}
+use mathlib.Core.Bool.{Bool, true, false, cond, _&&_}
+use mathlib.Core.List.{List, [], _∷_}
+use mathlib.Core.Path.{_≡_}
+use lib.Dec.{eqb}
+use lib.ListN.{length}
+use Rattle.wire.specs.Bytes.{Bytes}
+use Rattle.dots.specs.Wire.{dotsOf}
+use Rattle.clock.specs.Row.{Row, join, inReach}
+use Rattle.clock.specs.Offered.{allInReach}
+use Rattle.clock.specs.Code.{rowOf}
+use Rattle.dots.specs.declared.Dot.{Dot}
+use Rattle.wire.specs.Lists.{all, member}
+use Rattle.dots.specs.Dots.{compareDots, dotOk, ascendingDots}
+use Rattle.clock.specs.Clock.{zeroRow, rowAt, rowsOk, countersOf}
+use Rattle.clock.specs.declared.Reach.{Reach as CodeReach}
+
+-- all dots so far are in reach, and the row of the last one's actor with them
+pub record Reach : Type 0 where
+  pub ok : Bool
+  pub actor : ℕ
+  pub row : Row
+
+abbrev pub reachOf : CodeReach → Reach
+reachOf x = record { ok = x .ok; actor = x .actor .number; row = rowOf (x .row) }
+
+-- no dot so far
+abbrev pub reachStart : Reach
+reachStart = record { ok = true; actor = 0; row = zeroRow }
+
+-- the row for the next dot of actor a
+unfoldable pub rowFor : List ℕ → Reach → ℕ → Row
+rowFor words x a = cond (eqb (x .actor) a) (x .row) (rowAt words a)
+
+unfoldable pub reachStep : ℕ → List ℕ → Reach → Dot → Reach
+reachStep W words x d =
+    let r = rowFor words x (d .actor .number) in
+    cond (x .ok && inReach W r (d .counter .number))
+    (record { ok = true; actor = d .actor .number; row = join W r (d .counter .number) })
+    (record { ok = false; actor = x .actor; row = x .row })
+
+unfoldable pub reachEach : ℕ → List ℕ → Reach → List Dot → Reach
+reachEach W words x [] = x
+reachEach W words x (d ∷ ds) = reachEach W words (reachStep W words x d) ds
+
+-- dots that can be joined one by one, in their order
+pub record Ready (W : ℕ) (words : List ℕ) (ds : List Dot) : Type 0 where
+  pub size : length words ≡ 32
+  pub rows : rowsOk W words ≡ true
+  pub ok : all dotOk ds ≡ true
+  pub reach : (a : ℕ) → allInReach W (rowAt words a) (countersOf a ds) ≡ true
+
+-- what a call may offer: valid dots, ascending, to a clock with well-formed rows
+pub record Offer (W : ℕ) (words : List ℕ) (ds : List Dot) : Type 0 where
+  pub rows : rowsOk W words ≡ true
+  pub ascends : ascendingDots ds ≡ true
+
+-- a context in bytes and one dot more, which it does not have
+pub record OfferWith (W : ℕ) (words context : Bytes) (d : Dot) : Type 0 where
+  pub rows : rowsOk W words ≡ true
+  pub ascends : ascendingDots (dotsOf context) ≡ true
+  pub ok : dotOk d ≡ true
+  pub new : member compareDots d (dotsOf context) ≡ false

@@ -1,0 +1,305 @@
+// The clock: which events of each of 16 actors were seen. A row by value for one actor; the whole clock flat in 32 words.
+ghost use mathlib.Core.Path.{_≡_};
+ghost use mathlib.Core.Bool.{true};
+ghost use mathlib.Core.List.{_∷_, _++_};
+ghost use Prim.Native.Nat.{_+_, _≤_};
+ghost use lib.ListN.{length};
+ghost use Rattle.dots.specs.Dots.{maxCounter};
+ghost use Rattle.dots.specs.Wire.{dotsOf};
+ghost use Rattle.clock.specs.Row.{windowWidth, seen as isSeen, wellFormed, inReach, trailingOnes, settled, join as joined};
+ghost use Rattle.clock.specs.Code.{rowOf};
+ghost use Rattle.clock.specs.Clock.{rowAt, withRow, sees as isSeenBy, rowsOk, clockOk, joinDot, joinEach, joinAll, near};
+ghost use Rattle.clock.specs.Reach.{reachOf, reachStart, rowFor, reachStep, reachEach, Ready, Offer, OfferWith};
+
+// ---- one row
+
+// Events 1 to base are seen. Bit i of the window says that event base + 1 + i is seen.
+pub struct Row {
+    pub base: u64,
+    pub window: u64,
+}
+
+fn row_sees(row: Row, counter: u64) -> bool
+    ensures { λ r. ⌜ r ≡ isSeen (rowOf row) counter ⌝ }
+{
+    let base = row.base;
+    let window = row.window;
+    if counter <= base {
+        return 1 <= counter;
+    }
+    let above = counter - base - 1;
+    if 64 <= above {
+        return false;
+    }
+    (window >> above) % 2 == 1
+}
+
+// Whether the row keeps its rules: part of the check for damage.
+fn row_ok(row: Row) -> bool
+    ensures { λ r. ⌜ r ≡ wellFormed windowWidth (rowOf row) ⌝ }
+{
+    let base = row.base;
+    let window = row.window;
+    if window % 2 != 0 {
+        return false;
+    }
+    let room = u64::MAX - base;
+    if 64 <= room {
+        return true;
+    }
+    window >> room == 0
+}
+
+// Whether the counter lies no more than 64 above the base.
+fn row_reaches(row: Row, counter: u64) -> bool
+    ensures { λ r. ⌜ r ≡ inReach windowWidth (rowOf row) counter ⌝ }
+{
+    let base = row.base;
+    if counter <= base {
+        return 1 <= counter;
+    }
+    counter - base <= 64
+}
+
+// Moves the base up by the run of low ones. A run of 64 leaves no bit, and is no shift.
+fn settle(base: u64, window: u64) -> Row
+    requires { ⌜ base + trailingOnes windowWidth window ≤ maxCounter ⌝ }
+    ensures { λ r. ⌜ rowOf r ≡ settled windowWidth (record { base = base; window = window }) ⌝ }
+{
+    let run = u64::trailing_zeros(!window);
+    if run < 64 {
+        return Row {
+            base: base + run as u64,
+            window: window >> run,
+        };
+    }
+    Row {
+        base: base + 64,
+        window: 0,
+    }
+}
+
+// The row that also sees the counter.
+fn row_join(row: Row, counter: u64) -> Row
+    requires { ⌜ (wellFormed windowWidth (rowOf row) ≡ true) × (inReach windowWidth (rowOf row) counter ≡ true) ⌝ }
+    ensures { λ r. ⌜ rowOf r ≡ joined windowWidth (rowOf row) counter ⌝ }
+{
+    if row_sees(row, counter) {
+        return row;
+    }
+    let base = row.base;
+    let window = row.window;
+    let above = counter - base - 1;
+    settle(base, window | (1u64 << above))
+}
+
+// ---- the clock of 16 rows
+
+// All dots so far are in reach, and the row of the last one's actor with them.
+pub struct Reach {
+    pub ok: bool,
+    pub actor: dots::Actor,
+    pub row: Row,
+}
+
+pub fn row_of(words: &[u64; 32], actor: dots::Actor) -> Row
+    ensures { λ r. ⌜ rowOf r ≡ rowAt (now (words .entry)) (actor .number) ⌝ }
+{
+    let a = actor.number;
+    if a < 1 {
+        return Row { base: 0, window: 0 };
+    }
+    if 16 < a {
+        return Row { base: 0, window: 0 };
+    }
+    let first = (a - 1) as usize * 2;
+    Row {
+        base: words[first],
+        window: words[first + 1],
+    }
+}
+
+fn set_row(words: &mut [u64; 32], actor: dots::Actor, row: Row)
+    ensures { λ _. ⌜ now (words .exit) ≡ withRow (now (words .entry)) (actor .number) (rowOf row) ⌝ }
+{
+    let a = actor.number;
+    if a < 1 {
+        return;
+    }
+    if 16 < a {
+        return;
+    }
+    let at = (a - 1) as usize * 2;
+    words[at] = row.base;
+    words[at + 1] = row.window;
+}
+
+pub fn sees(words: &[u64; 32], dot: dots::Dot) -> bool
+    ensures { λ r. ⌜ r ≡ isSeenBy (now (words .entry)) dot ⌝ }
+{
+    row_sees(row_of(words, dot.actor), dot.counter.number)
+}
+
+// Whether every row keeps its rules.
+fn rows_ok(words: &[u64; 32]) -> bool
+    ensures { λ r. ⌜ r ≡ rowsOk windowWidth (now (words .entry)) ⌝ }
+{
+    let mut ok = true;
+    let mut a: u8 = 0;
+    while a < 16 {
+        a = a + 1;
+        let row = row_of(words, dots::Actor { number: a });
+        ok = ok & row_ok(row);
+    }
+    ok
+}
+
+// Whether the clock of a controller keeps its rules: the own window is 0.
+pub fn clock_ok(own: dots::Actor, words: &[u64; 32]) -> bool
+    ensures { λ r. ⌜ r ≡ clockOk windowWidth (own .number) (now (words .entry)) ⌝ }
+{
+    let rows = rows_ok(words);
+    let row = row_of(words, own);
+    rows & (row.window == 0)
+}
+
+// The clock that also sees the dot.
+fn join_dot(words: &mut [u64; 32], dot: dots::Dot)
+    requires { ⌜ (wellFormed windowWidth (rowAt (now words) (dot .actor .number)) ≡ true) × (inReach windowWidth (rowAt (now words) (dot .actor .number)) (dot .counter .number) ≡ true) ⌝ }
+    ensures { λ _. ⌜ now (words .exit) ≡ joinDot windowWidth (now (words .entry)) dot ⌝ }
+{
+    let row = row_of(words, dot.actor);
+    set_row(words, dot.actor, row_join(row, dot.counter.number));
+}
+
+// The row for the next dot of an actor.
+fn row_for(words: &[u64; 32], x: Reach, actor: dots::Actor) -> Row
+    ensures { λ r. ⌜ rowOf r ≡ rowFor (now (words .entry)) (reachOf x) (actor .number) ⌝ }
+{
+    if x.actor.number == actor.number {
+        return x.row;
+    }
+    row_of(words, actor)
+}
+
+// Whether one dot more is in reach.
+fn reach_step(words: &[u64; 32], x: Reach, dot: dots::Dot) -> Reach
+    requires { ⌜ (rowsOk windowWidth (now words) ≡ true) × (wellFormed windowWidth (rowOf (x .row)) ≡ true) ⌝ }
+    ensures { λ r. ⌜ (reachOf r ≡ reachStep windowWidth (now (words .entry)) (reachOf x) dot) × (wellFormed windowWidth (rowOf (r .row)) ≡ true) ⌝ }
+{
+    let row = row_for(words, x, dot.actor);
+    if !x.ok {
+        return x;
+    }
+    if !row_reaches(row, dot.counter.number) {
+        let mut out = x;
+        out.ok = false;
+        return out;
+    }
+    let joined = row_join(row, dot.counter.number);
+    let actor = dot.actor;
+    Reach {
+        ok: true,
+        actor: actor,
+        row: joined,
+    }
+}
+
+// Whether all dots of the bytes are in reach, one after the other.
+fn reach_dots(words: &[u64; 32], from: Reach, offered: &[u8]) -> Reach
+    requires { ⌜ (rowsOk windowWidth (now words) ≡ true) × (wellFormed windowWidth (rowOf (from .row)) ≡ true) ⌝ }
+    ensures { λ r. ⌜ (reachOf r ≡ reachEach windowWidth (now (words .entry)) (reachOf from) (dotsOf (now (offered .entry)))) × (wellFormed windowWidth (rowOf (r .row)) ≡ true) ⌝ }
+{
+    let mut x = from;
+    let n = offered.len() / 9;
+    let mut i: usize = 0;
+    while i < n {
+        let dot = dots::dot_at(offered, i * 9);
+        x = reach_step(words, x, dot);
+        i = i + 1;
+    }
+    x
+}
+
+// No dot so far.
+fn reach_start() -> Reach
+    ensures { λ r. ⌜ reachOf r ≡ reachStart ⌝ }
+{
+    Reach {
+        ok: true,
+        actor: dots::Actor { number: 0 },
+        row: Row { base: 0, window: 0 },
+    }
+}
+
+// Joins all dots of the bytes, one after the other.
+fn join_dots(words: &mut [u64; 32], offered: &[u8])
+    requires { ⌜ Ready windowWidth (now words) (dotsOf (now offered)) ⌝ }
+    ensures { λ _. ⌜ now (words .exit) ≡ joinEach windowWidth (now (words .entry)) (dotsOf (now (offered .entry))) ⌝ }
+{
+    let n = offered.len() / 9;
+    let mut i: usize = 0;
+    while i < n {
+        let dot = dots::dot_at(offered, i * 9);
+        join_dot(words, dot);
+        i = i + 1;
+    }
+}
+
+// ---- a context offered to the clock, without or with one more dot
+
+// Whether refusal 10 does not hold for a context. The clock is only read.
+pub fn near_context(words: &[u64; 32], context: &[u8]) -> bool
+    requires { ⌜ Offer windowWidth (now words) (dotsOf (now context)) ⌝ }
+    ensures { λ r. ⌜ r ≡ near windowWidth (now (words .entry)) (dotsOf (now (context .entry))) ⌝ }
+{
+    let end = reach_dots(words, reach_start(), context);
+    end.ok
+}
+
+// The same for dots before one, the one, and dots after it.
+fn near_around(words: &[u64; 32], before: &[u8], dot: dots::Dot, after: &[u8]) -> bool
+    requires { ⌜ Offer windowWidth (now words) (dotsOf (now before) ++ (dot ∷ dotsOf (now after))) ⌝ }
+    ensures { λ r. ⌜ r ≡ near windowWidth (now (words .entry)) (dotsOf (now (before .entry)) ++ (dot ∷ dotsOf (now (after .entry)))) ⌝ }
+{
+    let below = reach_dots(words, reach_start(), before);
+    let there = reach_step(words, below, dot);
+    let end = reach_dots(words, there, after);
+    end.ok
+}
+
+// Whether refusal 10 does not hold for a context and one more dot.
+pub fn near_with_dot(words: &[u64; 32], context: &[u8], dot: dots::Dot) -> bool
+    requires { ⌜ OfferWith windowWidth (now words) (now context) dot ⌝ }
+    ensures { λ r. ⌜ r ≡ near windowWidth (now (words .entry)) (dot ∷ dotsOf (now (context .entry))) ⌝ }
+{
+    let at = dots::place_of(context, dot) * 9;
+    near_around(words, &context[..at], dot, &context[at..])
+}
+
+// Joins a context where refusal 10 does not hold.
+pub fn join_context(words: &mut [u64; 32], context: &[u8])
+    requires { ⌜ (length (now words) ≡ 32) × Offer windowWidth (now words) (dotsOf (now context)) × (near windowWidth (now words) (dotsOf (now context)) ≡ true) ⌝ }
+    ensures { λ _. ⌜ now (words .exit) ≡ joinAll windowWidth (now (words .entry)) (dotsOf (now (context .entry))) ⌝ }
+{
+    join_dots(words, context);
+}
+
+// Joins dots before one, the one, and dots after it.
+fn join_around(words: &mut [u64; 32], before: &[u8], dot: dots::Dot, after: &[u8])
+    requires { ⌜ Ready windowWidth (now words) (dotsOf (now before) ++ (dot ∷ dotsOf (now after))) ⌝ }
+    ensures { λ _. ⌜ now (words .exit) ≡ joinEach windowWidth (now (words .entry)) (dotsOf (now (before .entry)) ++ (dot ∷ dotsOf (now (after .entry)))) ⌝ }
+{
+    join_dots(words, before);
+    join_dot(words, dot);
+    join_dots(words, after);
+}
+
+// Joins a context and one more dot, in ascending order.
+pub fn join_with_dot(words: &mut [u64; 32], context: &[u8], dot: dots::Dot)
+    requires { ⌜ (length (now words) ≡ 32) × OfferWith windowWidth (now words) (now context) dot × (near windowWidth (now words) (dot ∷ dotsOf (now context)) ≡ true) ⌝ }
+    ensures { λ _. ⌜ now (words .exit) ≡ joinAll windowWidth (now (words .entry)) (dot ∷ dotsOf (now (context .entry))) ⌝ }
+{
+    let at = dots::place_of(context, dot) * 9;
+    join_around(words, &context[..at], dot, &context[at..]);
+}

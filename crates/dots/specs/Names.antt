@@ -1,0 +1,31 @@
+-- Set names and labels.
+use Prim.Native.Nat.{ℕ}
+use mathlib.Core.Bool.{Bool, _&&_}
+use lib.Dec.{leb}
+use lib.ListN.{length}
+use Rattle.wire.specs.Lists.{all}
+use Rattle.wire.specs.Bytes.{Bytes, between}
+
+abbrev pub Name : Type 0
+Name = Bytes
+
+abbrev pub Label : Type 0
+Label = Bytes
+
+-- 1 to `most` bytes, none of them 0
+unfoldable pub textOk : ℕ → Bytes → Bool
+textOk most text = between 1 most (length text) && all (leb 1) text
+
+-- "Set name: 1 to 16 bytes"
+abbrev pub nameMost : ℕ
+nameMost = 16
+
+abbrev pub nameOk : Name → Bool
+nameOk = textOk nameMost
+
+-- "Label: 1 to 32 bytes"
+abbrev pub labelMost : ℕ
+labelMost = 32
+
+abbrev pub labelOk : Label → Bool
+labelOk = textOk labelMost

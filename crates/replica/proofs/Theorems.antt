@@ -1,0 +1,185 @@
+-- Demand 3, proved: `follows-the-rule` and `replicas-agree`.
+use mathlib.Core.Path.{_≡_, refl, sym, _∙_, ap, subst}
+use mathlib.Core.Logic.{_↔_, _⊎_, inl, inr, ⊎-elim, ⊎-map}
+use mathlib.Core.Bool.{Bool, true, false, cond}
+use mathlib.Core.List.{List, [], _∷_, List·Memᴰ·not-nil, Memᴰ·append-left, Memᴰ·append-right, Memᴰ·cast}
+use Prim.Native.Nat.{_+_}
+use lib.Dec.{T, not-T, isEq, eqb, eqb→eq}
+use Rattle.wire.specs.Lists.{_∈_, SameMembers, any, member}
+use Rattle.wire.specs.Bytes.{compareBytes}
+use Rattle.dots.specs.declared.Actor.{Actor}
+use Rattle.dots.specs.declared.Dot.{Dot}
+use Rattle.dots.specs.Names.{Label}
+use Rattle.dots.specs.Dots.{dotOf, compareDots}
+use Rattle.dots.specs.Entries.{Entry, compareEntries, linesOf, lineLabels}
+use Rattle.dots.specs.Message.{Message, pairsOf}
+use Rattle.wire.proofs.Tests.{pass, fail}
+use Rattle.wire.proofs.Lists.{tie-is, member-append, keep-member, member-keep, any-member, any-found, flatMap-mono, member-sound, not-member, ascending-keep}
+use Rattle.wire.proofs.Orders.{bytesLawful}
+use Rattle.dots.proofs.Orders.{dots, entries}
+use Rattle.dots.proofs.Lines.{label-of-line, line-of-label}
+use Rattle.replica.specs.Clock.{ClockModel, ClockLaws}
+use Rattle.replica.specs.Machine.{messagesOf, State, setUp, live, liveKeys, compacted, listing, found, effect, Controller}
+use Rattle.replica.specs.Rule.{Event, History, noHistory, noted, historyFrom, pairs, removed, livePairs, ruleListing, OneLabelPerDot}
+use Rattle.replica.specs.Demand3.{accepts, run, events, traffic, Compacts, accepted, FollowsTheRule, ReplicasAgree}
+use Rattle.replica.proofs.Invariant.{Invariant, at-start, next-dot, call-keeps}
+use Rattle.replica.proofs.Listings.{is-listing, live-pairs-are, same-named, same-live}
+
+-- what holds of the pairs of more messages holds of those of fewer
+fewer : {ms ms′ : List Message} → ((m : Message) → m ∈ ms → m ∈ ms′) → OneLabelPerDot (pairs ms′) → OneLabelPerDot (pairs ms)
+fewer {ms} {ms′} sub single d l l′ p q = single d l l′ (flatMap-mono pairsOf sub _ p) (flatMap-mono pairsOf sub _ q)
+
+-- a history only grows
+grows : (a : Actor) (h : History) (es : List Event) (m : Message) → m ∈ h .messages → m ∈ (historyFrom a h es) .messages
+unfolding historyFrom
+grows a h [] m k = k
+grows a h (e ∷ es) m k = grows a (cond (e .accepted) (noted a h (e .call)) h) es m (step (e .accepted))
+  where
+    step : (b : Bool) → m ∈ (cond b (noted a h (e .call)) h) .messages
+    step true = Memᴰ·append-right (messagesOf (dotOf a (h .ownAdds + 1)) (e .call)) k
+    step false = k
+
+-- what an invariant says of a state
+module _ (C : ClockModel) (L : ClockLaws C) {a : Actor} {s : State C} {h : History} (inv : Invariant C L a s h) where
+  pub live-keys : liveKeys C s ≡ livePairs (h .messages)
+  live-keys = live-pairs-are (h .messages) (liveKeys C s) (ascending-keep compareEntries entries (live C s) (s .keys) (inv .keys-ascend)) sound complete
+    where
+      sound : (e : Entry) → e ∈ liveKeys C s → (e ∈ pairs (h .messages)) × (e .dot ∈ removed (h .messages) → ⊥)
+      sound e k =
+          let w = keep-member (live C s) (s .keys) k in
+          (inv .key-paired e (w .0), λ r. not-member compareDots dots (s .tombstone) (w .1) (inv .dead-tombstoned e (w .0) r))
+
+      complete : (e : Entry) → e ∈ pairs (h .messages) → (e .dot ∈ removed (h .messages) → ⊥) → e ∈ liveKeys C s
+      complete e p n =
+          member-keep (live C s) (s .keys) (inv .live-stored e p n)
+          (not-T (member compareDots (e .dot) (s .tombstone)) (λ t. n (inv .tombstoned-removed (e .dot) (member-sound compareDots dots (s .tombstone) t))))
+
+  pub found-label : (l : Label) → T (found C s l) ↔ (l ∈ lineLabels (linesOf (liveKeys C s)))
+  unfolding found
+  found-label l = (to, from)
+    where
+      test : Entry → Bool
+      test e = isEq (compareBytes l (e .label))
+
+      to : T (any test (liveKeys C s)) → l ∈ lineLabels (linesOf (liveKeys C s))
+      to t =
+          let w = any-found test (liveKeys C s) t in
+          let q = bytesLawful .tie l (w .0 .label) (tie-is (compareBytes l (w .0 .label)) (w .2)) in
+          Memᴰ·cast q (line-of-label (liveKeys C s) (w .0) (w .1))
+
+      from : l ∈ lineLabels (linesOf (liveKeys C s)) → T (any test (liveKeys C s))
+      from k =
+          let w = label-of-line l (liveKeys C s) k in
+          any-member test (liveKeys C s) (w .1) (pass (ap isEq (ap (compareBytes l) (sym (w .2)) ∙ bytesLawful .self l)))
+
+-- two states that stand for the same messages have the same live keys and the same clock
+module _ (C : ClockModel) (L : ClockLaws C) {a b : Actor} {s t : State C} {h k : History} (inv : Invariant C L a s h) (inv′ : Invariant C L b t k)
+    (same : SameMembers (h .messages) (k .messages)) where
+  pub equal-live-keys : liveKeys C s ≡ liveKeys C t
+  equal-live-keys = live-keys C L inv ∙ same-live same ∙ sym (live-keys C L inv′)
+
+  pub equal-clocks : s .clock ≡ t .clock
+  equal-clocks = L .one-form (s .clock) (t .clock) (inv .well) (inv′ .well)
+      (λ d. (λ u. inv′ .named-seen d ((same-named same d) .0 (inv .seen-named d u)), λ u. inv .named-seen d ((same-named same d) .1 (inv′ .seen-named d u))))
+
+module _ (C : ClockModel) (L : ClockLaws C) (K : Controller C) where
+  -- the history after a call
+  abbrev after : Actor → K .Held → History → K .Input → History
+  after a x h i = cond (accepts C K x i) (noted a h (K .callOf i)) h
+
+  step-keeps : {a : Actor} {x : K .Held} {h : History} → Invariant C L a (K .view x) h → (i : K .Input)
+      → OneLabelPerDot (pairs ((after a x h i) .messages)) → Invariant C L a (K .view (K .step x i)) (after a x h i)
+  step-keeps {a} {x} {h} inv i single = by-answer (accepts C K x i) refl single
+    where
+      by-answer : (b : Bool) → accepts C K x i ≡ b → OneLabelPerDot (pairs ((cond b (noted a h (K .callOf i)) h) .messages))
+          → Invariant C L a (K .view (K .step x i)) (cond b (noted a h (K .callOf i)) h)
+      by-answer true e one =
+          let done = eqb→eq (K .answer x i) 0 (pass e) in
+          rw (K .does x i done) (call-keeps C L inv (K .callOf i) (K .guarded x i done) one)
+      by-answer false e one = rw (K .refuses x i (λ z. fail e (subst (λ n. T (eqb n 0)) (sym z) tt))) inv
+
+  run-keeps : {a : Actor} {x : K .Held} {h : History} → Invariant C L a (K .view x) h → (is : List (K .Input))
+      → OneLabelPerDot (pairs ((historyFrom a h (events C K x is)) .messages)) → Invariant C L a (K .view (run C K x is)) (historyFrom a h (events C K x is))
+  unfolding run events historyFrom
+  run-keeps inv [] single = inv
+  run-keeps {a} {x} {h} inv (i ∷ is) single =
+      run-keeps (step-keeps inv i (fewer (grows a (after a x h i) (events C K (K .step x i) is)) single)) is single
+
+  -- the rule's messages are those taken in or written
+  step-messages : {a : Actor} {x : K .Held} {h : History} → Invariant C L a (K .view x) h → (i : K .Input) (m : Message)
+      → (m ∈ (after a x h i) .messages) ↔ ((m ∈ cond (accepts C K x i) (K .message x i) []) ⊎ (m ∈ h .messages))
+  step-messages {a} {x} {h} inv i m = by-answer (accepts C K x i) refl
+    where
+      by-answer : (b : Bool) → accepts C K x i ≡ b → (m ∈ (cond b (noted a h (K .callOf i)) h) .messages) ↔ ((m ∈ cond b (K .message x i) []) ⊎ (m ∈ h .messages))
+      by-answer true e =
+          let done = eqb→eq (K .answer x i) 0 (pass e) in
+          rw (K .exchanges x i done, ap (λ (d : Dot). messagesOf d (K .callOf i)) (next-dot C L inv)) member-append
+      by-answer false e = (inr, ⊎-elim (λ k. absurd (List·Memᴰ·not-nil k)) (λ k. k))
+
+  run-messages : {a : Actor} {x : K .Held} {h : History} → Invariant C L a (K .view x) h → (is : List (K .Input))
+      → OneLabelPerDot (pairs ((historyFrom a h (events C K x is)) .messages))
+      → (m : Message) → (m ∈ (historyFrom a h (events C K x is)) .messages) ↔ ((m ∈ traffic C K x is) ⊎ (m ∈ h .messages))
+  unfolding events historyFrom traffic
+  run-messages inv [] single m = (inr, ⊎-elim (λ k. absurd (List·Memᴰ·not-nil k)) (λ k. k))
+  run-messages {a} {x} {h} inv (i ∷ is) single m =
+      regroup member-append
+      (run-messages (step-keeps inv i (fewer (grows a (after a x h i) (events C K (K .step x i) is)) single)) is single m) (step-messages inv i m)
+    where
+      regroup : {Now Later Both Old Mid New : Type 0} → Both ↔ (Now ⊎ Later) → New ↔ (Later ⊎ Mid) → Mid ↔ (Now ⊎ Old) → New ↔ (Both ⊎ Old)
+      regroup f g k = (
+        λ n. ⊎-elim (λ later. inl (f .1 (inr later))) (λ mid. ⊎-map (λ now. f .1 (inl now)) (λ old. old) (k .0 mid)) (g .0 n),
+        ⊎-elim (λ b. ⊎-elim (λ now. g .1 (inr (k .1 (inl now)))) (λ later. g .1 (inl later)) (f .0 b)) (λ old. g .1 (inr (k .1 (inr old)))),
+      )
+
+  compaction-does : {x : K .Held} {i : K .Input} → Compacts C K x i → K .view (K .step x i) ≡ compacted C (K .view x)
+  unfolding effect
+  compaction-does {x} {i} c = K .does x i (c .done) ∙ ap (effect C (K .view x)) (c .call-is)
+
+  begins : {a : Actor} {x : K .Held} → K .view x ≡ setUp C a → Invariant C L a (K .view x) noHistory
+  begins {a} e = rw e (at-start C L a)
+
+  pub follows-the-rule : FollowsTheRule C K
+  unfolding listing ruleListing compacted
+  follows-the-rule a x fresh is single = record {
+    listing-is = ap linesOf (live-keys C L inv);
+    rule-means = is-listing (accepted C K a x is);
+    lookup-is = λ l. rw (← (live-keys C L inv)) (found-label C L inv l);
+    clock-is = λ d. (inv .seen-named d, inv .named-seen d);
+    compaction-is = λ i c. ap (λ (s : State C). s .keys) (compaction-does c) ∙ live-keys C L inv;
+  }
+    where
+      inv : Invariant C L a (K .view (run C K x is)) (historyFrom a noHistory (events C K x is))
+      inv = run-keeps (begins fresh) is single
+
+  -- from set-up the rule's messages are the traffic
+  traffic-is : (a : Actor) (x : K .Held) → K .view x ≡ setUp C a → (is : List (K .Input)) → OneLabelPerDot (pairs (accepted C K a x is))
+      → SameMembers (accepted C K a x is) (traffic C K x is)
+  traffic-is a x fresh is single m =
+      let f = run-messages (begins fresh) is single m in
+      (λ k. ⊎-elim (λ t. t) (λ n. absurd (List·Memᴰ·not-nil n)) (f .0 k), λ t. f .1 (inl t))
+
+  pub replicas-agree : ReplicasAgree C K
+  unfolding listing compacted
+  replicas-agree a b x y fresh fresh′ is js same single = record {
+    same-listing = ap linesOf (equal-live-keys C L inv inv′ alike);
+    same-clock = λ i j c d. ap (λ (s : State C). s .clock) (compaction-does c) ∙ equal-clocks C L inv inv′ alike ∙ sym (ap (λ (s : State C). s .clock) (compaction-does d));
+    same-keys = λ i j c d. ap (λ (s : State C). s .keys) (compaction-does c) ∙ equal-live-keys C L inv inv′ alike ∙ sym (ap (λ (s : State C). s .keys) (compaction-does d));
+  }
+    where
+      one : OneLabelPerDot (pairs (accepted C K a x is))
+      one = fewer (λ m. Memᴰ·append-left (accepted C K b y js)) single
+
+      two : OneLabelPerDot (pairs (accepted C K b y js))
+      two = fewer (λ m. Memᴰ·append-right (accepted C K a x is)) single
+
+      inv : Invariant C L a (K .view (run C K x is)) (historyFrom a noHistory (events C K x is))
+      inv = run-keeps (begins fresh) is one
+
+      inv′ : Invariant C L b (K .view (run C K y js)) (historyFrom b noHistory (events C K y js))
+      inv′ = run-keeps (begins fresh′) js two
+
+      alike : SameMembers (accepted C K a x is) (accepted C K b y js)
+      alike m =
+          let here = traffic-is a x fresh is one m in
+          let there = traffic-is b y fresh′ js two m in
+          (λ k. there .1 ((same m) .0 (here .0 k)), λ k. here .1 ((same m) .1 (there .0 k)))

@@ -1,0 +1,73 @@
+-- Demand 3 over lists, for every controller that meets the seam: after any calls its listing, lookup, clock and compacted keys are those
+-- of the rule, and two controllers that accepted the same messages agree. A refused call is a call of the run like any other.
+use mathlib.Core.Bool.{Bool, cond}
+use mathlib.Core.List.{List, [], _∷_, _++_}
+use mathlib.Core.Logic.{_↔_, _⊎_}
+use mathlib.Core.Path.{_≡_}
+use lib.Dec.{T, eqb}
+use Rattle.wire.specs.Lists.{_∈_, SameMembers}
+use Rattle.dots.specs.declared.Actor.{Actor}
+use Rattle.dots.specs.declared.Dot.{Dot}
+use Rattle.dots.specs.Names.{Label}
+use Rattle.dots.specs.Entries.{lineLabels}
+use Rattle.dots.specs.Message.{Message}
+use Rattle.replica.specs.Clock.{ClockModel}
+use Rattle.replica.specs.Machine.{compact, setUp, seen, listing, found, Controller}
+use Rattle.replica.specs.Rule.{Event, noHistory, historyFrom, pairs, removed, Paired, livePairs, ruleListing, IsListing, OneLabelPerDot}
+
+module _ (C : ClockModel) (K : Controller C) where
+  -- "A call is accepted when it answers 0."
+  abbrev pub accepts : K .Held → K .Input → Bool
+  accepts x i = eqb (K .answer x i) 0
+
+  unfoldable pub run : K .Held → List (K .Input) → K .Held
+  run x [] = x
+  run x (i ∷ is) = run (K .step x i) is
+
+  -- all that the rule reads of a run: the calls, and which were accepted
+  unfoldable pub events : K .Held → List (K .Input) → List Event
+  events x [] = []
+  events x (i ∷ is) = record { call = K .callOf i; accepted = accepts x i } ∷ events (K .step x i) is
+
+  -- each message "taken in or written in an accepted call"
+  unfoldable pub traffic : K .Held → List (K .Input) → List Message
+  traffic x [] = []
+  traffic x (i ∷ is) = cond (accepts x i) (K .message x i) [] ++ traffic (K .step x i) is
+
+  -- an accepted compaction
+  pub record Compacts (x : K .Held) (i : K .Input) : Type 0 where
+    pub call-is : K .callOf i ≡ compact
+    pub done : K .answer x i ≡ 0
+
+  -- what is held is as the rule says, for the messages accepted on the way to it
+  pub record Follows (x : K .Held) (ms : List Message) : Type 0 where
+    -- the listing is the rule's, and this means what document 01 says
+    pub listing-is : listing C (K .view x) ≡ ruleListing ms
+    pub rule-means : IsListing ms (ruleListing ms)
+    -- lookup says yes exactly if the listing has the label
+    pub lookup-is : (l : Label) → T (found C (K .view x) l) ↔ (l ∈ lineLabels (ruleListing ms))
+    -- "The clock then sees just the dots in either set"
+    pub clock-is : (d : Dot) → T (seen C (K .view x) d) ↔ (Paired ms d ⊎ (d ∈ removed ms))
+    -- "and a compaction accepted next leaves just the keys of the pairs not removed"
+    pub compaction-is : (i : K .Input) → Compacts x i → (K .view (K .step x i)) .keys ≡ livePairs ms
+
+  -- two controllers list the same and, after "one accepted compaction on each as its next call", have equal clocks and keys
+  pub record Agree (x y : K .Held) : Type 0 where
+    pub same-listing : listing C (K .view x) ≡ listing C (K .view y)
+    pub same-clock : (i j : K .Input) → Compacts x i → Compacts y j → (K .view (K .step x i)) .clock ≡ (K .view (K .step y j)) .clock
+    pub same-keys : (i j : K .Input) → Compacts x i → Compacts y j → (K .view (K .step x i)) .keys ≡ (K .view (K .step y j)) .keys
+
+  -- the messages that the rule reads off the calls from set-up
+  abbrev pub accepted : Actor → K .Held → List (K .Input) → List Message
+  accepted a x is = (historyFrom a noHistory (events x is)) .messages
+
+  -- one controller, from its set-up on, with any calls
+  abbrev pub FollowsTheRule : Type 0
+  FollowsTheRule = (a : Actor) (x : K .Held) → K .view x ≡ setUp C a → (is : List (K .Input))
+      → OneLabelPerDot (pairs (accepted a x is)) → Follows (run x is) (accepted a x is)
+
+  -- two controllers that "accepted the same messages"
+  abbrev pub ReplicasAgree : Type 0
+  ReplicasAgree = (a b : Actor) (x y : K .Held) → K .view x ≡ setUp C a → K .view y ≡ setUp C b → (is js : List (K .Input))
+      → SameMembers (traffic x is) (traffic y js)
+      → OneLabelPerDot (pairs (accepted a x is ++ accepted b y js)) → Agree (run x is) (run y js)

@@ -1,0 +1,76 @@
+-- Big-endian numbers: the laws of `bigEndian` and `fromBigEndian`. Assumes nothing.
+use mathlib.Core.Path.{_≡_, refl, sym, ap, _∙_}
+use mathlib.Core.List.{List, [], _∷_, _++_}
+use Prim.Native.Nat.{ℕ, zero, suc, _+_, _*_, _%_, _^_, _≤_, _<_}
+use native.Mathlib.Nat.{pow-suc, pow-succ', mul-assoc, add-mul, add-assoc, le-trans, pow-le-pow-right, one-le-pow, div-add-mod', mod-lt}
+use native.Mathlib.Numerals.{add-one}
+use native.Mathlib.Omega.{arith}
+use lib.ListN.{length, take, drop, length-append, length-drop}
+use lib.Seq.{length-take-le, take-add, drop-drop}
+use lib.Pow.{pow-add}
+use lib.Arith.{digits-lt, digits-div, digits-mod}
+use lib.Dec.{lit<}
+use Rattle.wire.specs.Bytes.{AreBytes, bigEndian, fromBigEndian, numberAt}
+
+pub pow-pos-256 : (k : ℕ) → 0 < 256 ^ k
+pow-pos-256 k = one-le-pow k 256 (lit< tt)
+
+-- one byte more at the end
+pub from-snoc : (bs : List ℕ) (b : ℕ) → fromBigEndian (bs ++ (b ∷ [])) ≡ fromBigEndian bs * 256 + b
+unfolding fromBigEndian
+from-snoc [] b = omega arith
+from-snoc (a ∷ bs) b =
+    let l : length (bs ++ (b ∷ [])) ≡ suc (length bs) = simp length-append (add-one (length bs)) in
+    rw (l, from-snoc bs b, pow-suc, add-mul, add-assoc, mul-assoc)
+
+-- bytes make a number that fits as many bytes
+pub from-lt : (bs : List ℕ) → AreBytes bs → fromBigEndian bs < 256 ^ length bs
+unfolding fromBigEndian
+from-lt [] small = omega arith
+from-lt (b ∷ bs) small = rw pow-succ' (digits-lt (small 0) (from-lt bs (λ i. small (suc i))))
+
+pub from-fits : (bs : List ℕ) → AreBytes bs → length bs ≤ 8 → fromBigEndian bs < 2 ^ 64
+from-fits bs small h = le-trans (from-lt bs small) (pow-le-pow-right (lit< tt) h)
+
+-- one digit more still fits 8 bytes
+pub room-for-one : {n i : ℕ} → n < 256 ^ i → i < 8 → n * 256 + 255 < 2 ^ 64
+room-for-one {n} {i} h k =
+    le-trans (digits-lt h (lit< tt)) (rw (← pow-suc) (pow-le-pow-right (lit< tt) k))
+
+-- bytes, and more bytes after them
+pub from-append : (xs ys : List ℕ) → fromBigEndian (xs ++ ys) ≡ fromBigEndian xs * 256 ^ length ys + fromBigEndian ys
+unfolding fromBigEndian
+from-append [] ys = omega arith
+from-append (x ∷ xs) ys = rw (length-append xs ys, from-append xs ys, pow-add 256 (length xs) (length ys), add-mul, add-assoc, mul-assoc)
+
+-- four bytes, as the code reads them
+pub from-four : (a b c d : ℕ) → ((a * 256 + b) * 256 + c) * 256 + d ≡ fromBigEndian (a ∷ b ∷ c ∷ d ∷ [])
+unfolding fromBigEndian
+from-four a b c d = omega arith
+
+-- eight bytes are two halves
+pub from-halves : (s : List ℕ) (at : ℕ) → at + 8 ≤ length s → numberAt 4 s at * 4294967296 + numberAt 4 s (at + 4) ≡ numberAt 8 s at
+from-halves s at h =
+    let low : length (take 4 (drop (at + 4) s)) ≡ 4 = length-take-le 4 (drop (at + 4) s) (rw length-drop (omega arith)) in
+    let split : take 8 (drop at s) ≡ take 4 (drop at s) ++ take 4 (drop (at + 4) s) = take-add 4 4 (drop at s) ∙ rw drop-drop in
+    sym (ap fromBigEndian split ∙ from-append (take 4 (drop at s)) (take 4 (drop (at + 4) s)) ∙ rw low)
+
+pub length-bigEndian : (k n : ℕ) → length (bigEndian k n) ≡ k
+unfolding bigEndian
+length-bigEndian zero n = refl
+length-bigEndian (suc k) n = ap suc (length-bigEndian k (n % 256 ^ k))
+
+-- a number written and read
+pub from-bigEndian : (k n : ℕ) → n < 256 ^ k → fromBigEndian (bigEndian k n) ≡ n
+unfolding bigEndian fromBigEndian
+from-bigEndian zero n h = omega arith
+from-bigEndian (suc k) n h =
+    rw (length-bigEndian k (n % 256 ^ k), from-bigEndian k (n % 256 ^ k) (mod-lt n (pow-pos-256 k))) (div-add-mod' n (256 ^ k))
+
+-- bytes read and written
+pub bigEndian-from : (bs : List ℕ) → AreBytes bs → bigEndian (length bs) (fromBigEndian bs) ≡ bs
+unfolding bigEndian fromBigEndian
+bigEndian-from [] small = refl
+bigEndian-from (b ∷ bs) small =
+    let below : fromBigEndian bs < 256 ^ length bs = from-lt bs (λ i. small (suc i)) in
+    rw (digits-div b below, digits-mod b below, bigEndian-from bs (λ i. small (suc i)))

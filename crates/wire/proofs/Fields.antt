@@ -1,0 +1,78 @@
+-- Fields in bytes. On: where a place's rest begins with a field's bytes, the field is read there, and the rest goes on after it.
+-- Back: a field read at a place, with the rest after it, is the place's rest. Assumes nothing.
+use mathlib.Core.Path.{_≡_, sym, ap, _∙_}
+use mathlib.Core.List.{List, _∷_, _++_, append-assoc}
+use Prim.Native.Nat.{ℕ, _+_, _^_, _≤_, _<_}
+use native.Mathlib.Nat.{add-zero, zero-add}
+use native.Mathlib.Decide.{decLt}
+use native.Mathlib.Omega.{arith}
+use lib.ListN.{length, take, drop, getD, length-drop, take-append-drop, length-take, length-append, List·getD-append, List·getD-eq-default}
+use lib.Seq.{take-at, drop-at, drop-drop, getD-drop, getD-take, getD-append-add, length-take-le}
+use Rattle.wire.specs.Bytes.{AreBytes, bigEndian, numberAt, putAt}
+use Rattle.wire.proofs.Parts.{drop-step}
+use Rattle.wire.proofs.BigEndian.{length-bigEndian, from-bigEndian, bigEndian-from}
+
+module _ (s : List ℕ) where
+  pub byte-on : (i x : ℕ) (t : List ℕ) → drop i s ≡ x ∷ t → (getD s i 0 ≡ x) × (drop (i + 1) s ≡ t)
+  byte-on i x t h = (sym (rw add-zero at (getD-drop i s 0 0)) ∙ ap (λ (l : List ℕ). getD l 0 0) h, sym (drop-drop 1 i s) ∙ ap (drop 1) h)
+
+  pub part-on : (i n : ℕ) (p t : List ℕ) → length p ≡ n → drop i s ≡ p ++ t → (take n (drop i s) ≡ p) × (drop (i + n) s ≡ t)
+  part-on i n p t e h = (rw h (take-at p t n e), sym (drop-drop n i s) ∙ rw h (drop-at p t n e))
+
+  pub number-on : (k i n : ℕ) (t : List ℕ) → n < 256 ^ k → drop i s ≡ bigEndian k n ++ t → (numberAt k s i ≡ n) × (drop (i + k) s ≡ t)
+  number-on k i n t small h =
+      let part = part-on i k (bigEndian k n) t (length-bigEndian k n) h in
+      (rw (part .0) (from-bigEndian k n small), part .1)
+
+  pub byte-back : (i : ℕ) → i < length s → getD s i 0 ∷ drop (i + 1) s ≡ drop i s
+  byte-back i h = sym (drop-step s i h)
+
+  pub part-back : (i n : ℕ) → take n (drop i s) ++ drop (i + n) s ≡ drop i s
+  part-back i n = rw (← drop-drop n i s) (take-append-drop n (drop i s))
+
+  pub part-length : (i n : ℕ) → i + n ≤ length s → length (take n (drop i s)) ≡ n
+  part-length i n h = length-take-le n (drop i s) (rw length-drop (omega arith))
+
+-- ---- parts of bytes are bytes
+
+pub bytes-drop : (s : List ℕ) (n : ℕ) → AreBytes s → AreBytes (drop n s)
+bytes-drop s n small i = rw getD-drop (small (n + i))
+
+pub bytes-take : (s : List ℕ) (n : ℕ) → AreBytes s → AreBytes (take n s)
+bytes-take s n small i = elim (decLt i n) [
+  | yes h ↦ rw (getD-take n s i 0 h) (small i)
+  | no h ↦ let past : length (take n s) ≤ i = rw length-take (omega arith) in rw (List·getD-eq-default (take n s) 0 past) (omega arith)
+]
+
+pub bytes-left : (a b : List ℕ) → AreBytes (a ++ b) → AreBytes a
+bytes-left a b small i = elim (decLt i (length a)) [
+  | yes h ↦ rw List·getD-append at (small i)
+  | no h ↦ let past : length a ≤ i = omega arith in rw (List·getD-eq-default a 0 past) (omega arith)
+]
+
+pub bytes-right : (a b : List ℕ) → AreBytes (a ++ b) → AreBytes b
+bytes-right a b small i = rw getD-append-add at (small (length a + i))
+
+pub number-back : (s : List ℕ) → AreBytes s → (k i : ℕ) → i + k ≤ length s → bigEndian k (numberAt k s i) ++ drop (i + k) s ≡ drop i s
+number-back s small k i h =
+    let size : length (take k (drop i s)) ≡ k = part-length s i k h in
+    let same : bigEndian k (numberAt k s i) ≡ take k (drop i s) =
+    ap (λ (n : ℕ). bigEndian n (numberAt k s i)) (sym size) ∙ bigEndian-from (take k (drop i s)) (bytes-take (drop i s) k (bytes-drop s i small)) in
+    rw same (part-back s i k)
+
+-- ---- bytes put into a buffer one after the other
+
+-- one put after another is one put of both
+pub put-next : (s t u x y : List ℕ) (at next : ℕ) → t ≡ putAt s at x → next ≡ at + length x → u ≡ putAt t next y → next ≤ length s → u ≡ putAt s at (x ++ y)
+unfolding putAt
+put-next s t u x y at next e n f fits =
+    let front : length (take at s ++ x) ≡ next = rw (length-append, length-take-le at s (omega arith)) (sym n) in
+    let whole : t ≡ (take at s ++ x) ++ drop next s = e ∙ rw (n, append-assoc) in
+    let rest : drop (next + length y) t ≡ drop (next + length y) s =
+    rw (← drop-drop (length y) next t, ← drop-drop (length y) next s, whole, drop-at (take at s ++ x) (drop next s) next front) in
+    let total : next + length y ≡ at + length (x ++ y) = rw length-append (omega arith) in
+    f ∙ rw (rest, whole, take-at (take at s ++ x) (drop next s) next front, total, append-assoc, append-assoc)
+
+pub put-front : (s x : List ℕ) → putAt s 0 x ≡ x ++ drop (length x) s
+unfolding putAt
+put-front s x = rw zero-add

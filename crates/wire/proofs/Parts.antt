@@ -1,0 +1,39 @@
+-- Parts of lists, as loops over bytes meet them: a loop's `i + 1` and not `suc i`. Assumes nothing.
+use mathlib.Core.Path.{_≡_, sym}
+use mathlib.Core.List.{List, [], _∷_, _++_}
+use Prim.Native.Nat.{ℕ, zero, suc, _+_, _-_, _≤_, _<_}
+use native.Mathlib.Nat.{sub-zero, zero-sub, suc-sub-suc}
+use native.Mathlib.Numerals.{add-one}
+use native.Mathlib.Omega.{arith}
+use lib.ListN.{length, take, drop, getD, length-drop, List·getD-eq-default}
+use lib.Seq.{take-suc, drop-cons, take-all, take-nil}
+
+-- one element more of a list from its front, and one less of its rest
+pub take-step : (s : List ℕ) (i : ℕ) → i < length s → take (i + 1) s ≡ take i s ++ (getD s i 0 ∷ [])
+take-step s i h = rw add-one (take-suc s i 0 h)
+
+pub drop-step : (s : List ℕ) (i : ℕ) → i < length s → drop i s ≡ getD s i 0 ∷ drop (i + 1) s
+drop-step s i h = rw add-one (drop-cons s i 0 h)
+
+-- a part that goes to the end, `&s[a..]`, is the rest of the list
+pub rest-part : (s : List ℕ) (a : ℕ) → take (length s - a) (drop a s) ≡ drop a s
+rest-part s a = take-all (length s - a) (drop a s) (rw length-drop (omega arith))
+
+-- a part of k elements, `&s[a..a + k]`
+pub size-part : (s : List ℕ) (a k : ℕ) → take (a + k - a) (drop a s) ≡ take k (drop a s)
+size-part s a k = let e : a + k - a ≡ k = omega arith in rw e
+
+-- the rest of a front is a part
+pub drop-take : (a b : ℕ) (s : List ℕ) → drop a (take b s) ≡ take (b - a) (drop a s)
+drop-take zero b s = rw sub-zero
+drop-take (suc a) zero s = rw zero-sub
+drop-take (suc a) (suc b) [] = sym (take-nil (suc b - suc a))
+drop-take (suc a) (suc b) (x ∷ s) = rw suc-sub-suc (drop-take a b s)
+
+-- past the end
+pub none-past : (s : List ℕ) (i : ℕ) → length s ≤ i → 0 ≡ getD s i 0
+none-past s i h = sym (List·getD-eq-default s 0 h)
+
+-- the first element of a part, and the part after it
+pub part-step : (s : List ℕ) (a k : ℕ) → a < length s → take (suc k) (drop a s) ≡ getD s a 0 ∷ take k (drop (a + 1) s)
+part-step s a k h = rw (drop-step s a h)

@@ -1,0 +1,98 @@
+-- Four bytes, one after the other.
+use Prim.Native.Nat.{ℕ, _+_, _*_, _≤_}
+use mathlib.Core.Path.{_≡_}
+use mathlib.Core.List.{List, [], _∷_}
+use native.Mathlib.Omega.{arith}
+use lib.ListN.{length, take, drop, getD}
+use Rattle.wire.specs.Bytes.{numberAt}
+use Rattle.wire.proofs.Parts.{part-step}
+use Rattle.wire.proofs.BigEndian.{from-four}
+use borrow.Author.Needs.{needs}
+use Rattle.wire.proofs.half_at.Statement.{statement}
+use Rattle.wire.proofs.half_at.Tie as tie
+
+four : (s : List ℕ) (at a b c d : ℕ) → at + 4 ≤ length s → a ≡ getD s at 0 → b ≡ getD s (at + 1) 0 → c ≡ getD s (at + 2) 0 → d ≡ getD s (at + 3) 0
+    → ((a * 256 + b) * 256 + c) * 256 + d ≡ numberAt 4 s at
+four s at a b c d h p q r t =
+    let one : at + 1 + 1 ≡ at + 2 = omega arith in
+    let two : at + 2 + 1 ≡ at + 3 = omega arith in
+    let bytes : take 4 (drop at s) ≡ getD s at 0 ∷ getD s (at + 1) 0 ∷ getD s (at + 2) 0 ∷ getD s (at + 3) 0 ∷ [] =
+    rw (part-step s at 3 (omega arith), part-step s (at + 1) 2 (omega arith), one, part-step s (at + 2) 1 (omega arith), two, part-step s (at + 3) 0 (omega arith)) in
+    rw (p, q, r, t, bytes) (from-four (getD s at 0) (getD s (at + 1) 0) (getD s (at + 2) 0) (getD s (at + 3) 0))
+
+shared-slice-read-wide : tie.Need-shared-slice-read-wide
+shared-slice-read-wide c = search needs
+
+wide-requires : tie.Need-wide-requires
+wide-requires c κs = search needs
+
+mul-result : tie.Need-mul-result
+mul-result c = search needs
+
+add-wide : tie.Need-add-wide
+add-wide c = search needs
+
+shared-slice-read-wide-2 : tie.Need-shared-slice-read-wide-2
+shared-slice-read-wide-2 c = search needs
+
+wide-requires-2 : tie.Need-wide-requires-2
+wide-requires-2 c κs = search needs
+
+add-result : tie.Need-add-result
+add-result c = search needs
+
+mul-result-2 : tie.Need-mul-result-2
+mul-result-2 c = search needs
+
+add-wide-2 : tie.Need-add-wide-2
+add-wide-2 c = search needs
+
+shared-slice-read-wide-3 : tie.Need-shared-slice-read-wide-3
+shared-slice-read-wide-3 c = search needs
+
+wide-requires-3 : tie.Need-wide-requires-3
+wide-requires-3 c κs = search needs
+
+add-result-2 : tie.Need-add-result-2
+add-result-2 c = search needs
+
+mul-result-3 : tie.Need-mul-result-3
+mul-result-3 c = search needs
+
+add-wide-3 : tie.Need-add-wide-3
+add-wide-3 c = search needs
+
+shared-slice-read-wide-4 : tie.Need-shared-slice-read-wide-4
+shared-slice-read-wide-4 c = search needs
+
+wide-requires-4 : tie.Need-wide-requires-4
+wide-requires-4 c κs = search needs
+
+add-result-3 : tie.Need-add-result-3
+add-result-3 c = search needs
+
+returns : tie.Need-returns
+returns c = search (needs, four)
+
+pub half-at-spec : {M : Type 1} → statement M
+half-at-spec =
+    tie.close
+    (tie.spec
+    shared-slice-read-wide
+    wide-requires
+    mul-result
+    add-wide
+    shared-slice-read-wide-2
+    wide-requires-2
+    add-result
+    mul-result-2
+    add-wide-2
+    shared-slice-read-wide-3
+    wide-requires-3
+    add-result-2
+    mul-result-3
+    add-wide-3
+    shared-slice-read-wide-4
+    wide-requires-4
+    add-result-3
+    returns)
