@@ -20,7 +20,7 @@ use Rattle.replica.specs.Demand3.{FollowsTheRule, ReplicasAgree}
 use Rattle.replica.specs.RowClock.{rowClock}
 use Rattle.replica.proofs.Theorems.{follows-the-rule, replicas-agree}
 
-pub rowClockLaws : (W : ℕ) → 1 ≤ W → ClockLaws (rowClock W)
+unfoldable pub rowClockLaws : (W : ℕ) → 1 ≤ W → ClockLaws (rowClock W)
 unfolding sees joinAll
 rowClockLaws W w = record {
   WellFormed = Formed W;

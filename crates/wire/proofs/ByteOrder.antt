@@ -13,7 +13,7 @@ use borrow.Author.Tests.{le-leb, leb-true, eqb-true, eq-eqb}
 use Rattle.wire.specs.Lists.{all, then, compareLists}
 use Rattle.wire.specs.Bytes.{compareBytes, bigEndian, zeroAt, startsWith}
 use Rattle.wire.proofs.Tests.{both}
-use Rattle.wire.proofs.Orders.{numbers, numbers-self, number-less, less-number}
+use Rattle.wire.proofs.Orders.{numbers, numbers-self, number-less, less-number, bytesLawful}
 use Rattle.wire.proofs.BigEndian.{pow-pos-256}
 
 -- ---- numbers in bytes
@@ -63,11 +63,23 @@ compare-bigEndian (suc k) m n h l =
     ∙ digits (m / p) (m % p) (n / p) (n % p) p (mod-lt m (pow-pos-256 k)) (mod-lt n (pow-pos-256 k))
     ∙ ap₂ compare (div-add-mod' m p) (div-add-mod' n p)
 
+-- the first comparison that is no tie decides
+then-assoc : (o p q : Ordering) → then o (then p q) ≡ then (then o p) q
+then-assoc Ordering·lt p q = refl
+then-assoc Ordering·eq p q = refl
+then-assoc Ordering·gt p q = refl
+
+-- starts of one length decide, and where they are equal what follows them
+pub compare-append : (p q a b : List ℕ) → length p ≡ length q → compareBytes (p ++ a) (q ++ b) ≡ then (compareBytes p q) (compareBytes a b)
+unfolding compareLists
+compare-append [] [] a b l = refl
+compare-append [] (y ∷ q) a b l = absurd (omega arith)
+compare-append (x ∷ p) [] a b l = absurd (omega arith)
+compare-append (x ∷ p) (y ∷ q) a b l = rw (compare-append p q a b (omega arith)) (then-assoc (compare x y) (compareBytes p q) (compareBytes a b))
+
 -- a common start does not matter
 pub compare-common : (p a b : List ℕ) → compareBytes (p ++ a) (p ++ b) ≡ compareBytes a b
-unfolding compareLists
-compare-common [] a b = refl
-compare-common (x ∷ p) a b = rw (number-is-equal {m = x} refl) (compare-common p a b)
+compare-common p a b = compare-append p p a b refl ∙ rw (bytesLawful .self p)
 
 -- strings with no 0 that end in a 0 compare by themselves first
 pub compare-ended : (l m a b : List ℕ) → all (leb 1) l ≡ true → all (leb 1) m ≡ true
@@ -78,19 +90,19 @@ compare-ended [] (y ∷ m) a b h k = rw (number-is-less (leb-true 1 y (search bo
 compare-ended (x ∷ l) [] a b h k = rw (number-is-greater (leb-true 1 x (search both)))
 compare-ended (x ∷ l) (y ∷ m) a b h k =
     rw (compare-ended l m a b (search both) (search both)) (then-assoc (compare x y) (compareBytes l m) (compareBytes a b))
-  where
-    then-assoc : (o p q : Ordering) → then o (then p q) ≡ then (then o p) q
-    then-assoc Ordering·lt p q = refl
-    then-assoc Ordering·eq p q = refl
-    then-assoc Ordering·gt p q = refl
 
 -- ---- the first 0
 
-pub zeroAt-ended : (l t : List ℕ) → all (leb 1) l ≡ true → zeroAt (l ++ (0 ∷ t)) ≡ length l
+-- bytes that are not 0 are passed over
+pub zeroAt-passed : (l t : List ℕ) → all (leb 1) l ≡ true → zeroAt (l ++ t) ≡ length l + zeroAt t
 unfolding zeroAt all
-zeroAt-ended [] t h = refl
-zeroAt-ended (zero ∷ l) t h = let no : 1 ≤ 0 = leb-true 1 0 (search both) in absurd (omega arith)
-zeroAt-ended (suc b ∷ l) t h = ap suc (zeroAt-ended l t (search both))
+zeroAt-passed [] t h = omega arith
+zeroAt-passed (zero ∷ l) t h = let no : 1 ≤ 0 = leb-true 1 0 (search both) in absurd (omega arith)
+zeroAt-passed (suc b ∷ l) t h = omega (arith, zeroAt-passed l t (search both))
+
+pub zeroAt-ended : (l t : List ℕ) → all (leb 1) l ≡ true → zeroAt (l ++ (0 ∷ t)) ≡ length l
+unfolding zeroAt
+zeroAt-ended l t h = omega (arith, zeroAt-passed l (0 ∷ t) h)
 
 pub zeroAt-le : (s : List ℕ) → zeroAt s ≤ length s
 unfolding zeroAt
@@ -124,6 +136,12 @@ pub starts-itself : (a t : List ℕ) → startsWith a (a ++ t) ≡ true
 unfolding startsWith
 starts-itself [] t = refl
 starts-itself (x ∷ a) t = rw (eq-eqb x x refl) (starts-itself a t)
+
+-- a common start does not matter
+pub starts-common : (p a b : List ℕ) → startsWith (p ++ a) (p ++ b) ≡ startsWith a b
+unfolding startsWith
+starts-common [] a b = refl
+starts-common (x ∷ p) a b = rw (eq-eqb x x refl) (starts-common p a b)
 
 pub starts-split : (a s : List ℕ) → startsWith a s ≡ true → a ++ drop (length a) s ≡ s
 unfolding startsWith

@@ -1,5 +1,5 @@
 -- Tests: what a Bool says. Lists: lists as sets. Orders: comparisons that are orders. Parts: parts of lists, as loops meet them.
--- BigEndian: numbers in bytes. ByteOrder: plain byte order, the first 0, common starts. Fields: fields in bytes, going on and going back, and written one after the other.
+-- BigEndian: numbers in bytes. ByteOrder: plain byte order, the first 0, common starts. Words: the same, by numbers of several bytes. Fields: fields in bytes, going on and going back, and written one after the other.
 pub mod Tests
 pub mod Lists
 pub mod Orders
@@ -7,3 +7,4 @@ pub mod Parts
 pub mod BigEndian
 pub mod Fields
 pub mod ByteOrder
+pub mod Words

@@ -1,5 +1,5 @@
 -- Parts of lists, as loops over bytes meet them: a loop's `i + 1` and not `suc i`. Assumes nothing.
-use mathlib.Core.Path.{_≡_, sym}
+use mathlib.Core.Path.{_≡_, sym, _∙_}
 use mathlib.Core.List.{List, [], _∷_, _++_}
 use Prim.Native.Nat.{ℕ, zero, suc, _+_, _-_, _≤_, _<_}
 use native.Mathlib.Nat.{sub-zero, zero-sub, suc-sub-suc}
@@ -37,3 +37,7 @@ none-past s i h = sym (List·getD-eq-default s 0 h)
 -- the first element of a part, and the part after it
 pub part-step : (s : List ℕ) (a k : ℕ) → a < length s → take (suc k) (drop a s) ≡ getD s a 0 ∷ take k (drop (a + 1) s)
 part-step s a k h = rw (drop-step s a h)
+
+-- the element of a part at an offset, and the part after it
+pub part-offset : (s : List ℕ) (a j k : ℕ) → a + j < length s → take (suc k) (drop (a + j) s) ≡ getD s (a + j) 0 ∷ take k (drop (a + suc j) s)
+part-offset s a j k h = let next : a + j + 1 ≡ a + suc j = omega arith in part-step s (a + j) k h ∙ rw next

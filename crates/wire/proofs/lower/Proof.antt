@@ -1,63 +1,49 @@
--- The invariant: the first i bytes of both are equal, so the rests decide. The measure is what is left of a.
-use Prim.Native.Nat.{ℕ, _+_, _-_, _≤_, _<_}
+-- The invariant: the blocks of 8 bytes before i are equal, so the rests decide. The measure is what is left of the shorter one.
+use Prim.Native.Nat.{ℕ, _+_, _-_, _≤_}
 use mathlib.Core.Path.{_≡_, sym, ap, _∙_}
-use mathlib.Core.Bool.{false}
-use mathlib.Core.List.{List, []}
-use native.Mathlib.Decide.{decLe}
+use mathlib.Core.List.{List}
 use native.Mathlib.Omega.{arith}
 use lib.Dec.{ltb}
-use lib.ListN.{length, drop, getD, drop-of-length-le}
-use borrow.Author.Needs.{needs}
-use borrow.Author.Tests.{lt-ltb, le-ltb}
-use Rattle.wire.specs.Lists.{isLt, compareLists}
-use Rattle.wire.specs.Bytes.{compareBytes}
-use Rattle.wire.proofs.Parts.{drop-step}
+use lib.ListN.{length, drop}
+use Rattle.wire.specs.Lists.{isLt}
+use Rattle.wire.specs.Bytes.{AreBytes, compareBytes, numberAt}
 use Rattle.wire.proofs.Orders.{numbers-self, isLt-differs}
+use Rattle.wire.proofs.Words.{compare-words}
+use borrow.Author.Needs.{needs}
 use Rattle.wire.proofs.lower.Statement.{statement}
 use Rattle.wire.proofs.lower.Tie as tie
 
 abbrev Inv-loop : tie.InvT-loop
-Inv-loop a b i₀ i = (i ≤ length a) × ((i ≤ length b) × (compareBytes a b ≡ compareBytes (drop i a) (drop i b)))
+Inv-loop a b n i₀ i = (i ≤ n) × ((AreBytes a × AreBytes b) × (compareBytes a b ≡ compareBytes (drop i a) (drop i b)))
 
 abbrev μ-loop : tie.MeasureT-loop
-μ-loop a b i₀ i = length a - i
+μ-loop a b n i₀ i = n - i
 
-module _ (a b : List ℕ) (i : ℕ) (inv : compareBytes a b ≡ compareBytes (drop i a) (drop i b)) where
-  -- what decides: a byte, or the end of one
-  differs : i < length a → i < length b → (getD a i 0 ≡ getD b i 0 → ⊥) → ltb (getD a i 0) (getD b i 0) ≡ isLt (compareBytes a b)
-  unfolding compareLists
-  differs h k d = sym (ap isLt inv ∙ rw (drop-step a i h, drop-step b i k) (isLt-differs (getD a i 0) (getD b i 0) _ d))
+module _ (a b : List ℕ) (p : AreBytes a) (q : AreBytes b) (n i x y : ℕ) (h : i + 8 ≤ n) (m : n ≤ length a) (l : n ≤ length b)
+    (inv : compareBytes a b ≡ compareBytes (drop i a) (drop i b)) (e : x ≡ numberAt 8 a i) (f : y ≡ numberAt 8 b i) where
+  differs : (x ≡ y → ⊥) → ltb x y ≡ isLt (compareBytes a b)
+  differs d = sym (ap isLt (inv ∙ compare-words a b p q 8 i (omega arith) (omega arith)) ∙ rw (← e, ← f) (isLt-differs x y _ d))
 
-  tied : i < length a → i < length b → getD a i 0 ≡ getD b i 0 → compareBytes a b ≡ compareBytes (drop (i + 1) a) (drop (i + 1) b)
-  unfolding compareLists
-  tied h k e = inv ∙ rw (drop-step a i h, drop-step b i k, e, numbers-self)
+  tied : x ≡ y → compareBytes a b ≡ compareBytes (drop (i + 8) a) (drop (i + 8) b)
+  tied d = inv ∙ compare-words a b p q 8 i (omega arith) (omega arith) ∙ rw (← e, ← f, d, numbers-self)
 
-  longer : i < length a → length b ≤ i → false ≡ isLt (compareBytes a b)
-  unfolding compareLists
-  longer h k = sym (ap isLt inv ∙ rw (drop-step a i h, drop-of-length-le b k))
-
-  ended : length a ≤ i → i ≤ length b → ltb i (length b) ≡ isLt (compareBytes a b)
-  unfolding compareLists
-  ended h k = sym (ap isLt inv ∙ rw (drop-of-length-le a h) (by-rest (decLe (length b) i)))
-    where
-      by-rest : Dec (length b ≤ i) → isLt (compareBytes [] (drop i b)) ≡ ltb i (length b)
-      by-rest (yes l) = rw (drop-of-length-le b l, le-ltb i (length b) l)
-      by-rest (no l) = let more : i < length b = omega arith in rw (drop-step b i more, lt-ltb i (length b) more)
+smaller-requires : tie.Need-smaller-requires Inv-loop μ-loop
+smaller-requires c κs = search needs
 
 loop-holds : tie.Need-loop-holds Inv-loop μ-loop
-loop-holds c = search needs
+loop-holds c = (search needs, ((λ k. omega (arith, c .before .before .shared-slice-known .given k), λ k. omega (arith, c .before .shared-slice-known2 .given k)), search needs))
+
+add-loop : tie.Need-add-loop Inv-loop μ-loop
+add-loop c = search needs
+
+number-at-requires : tie.Need-number-at-requires Inv-loop μ-loop
+number-at-requires c κs = search needs
+
+number-at-requires-2 : tie.Need-number-at-requires-2 Inv-loop μ-loop
+number-at-requires-2 c κs = search needs
 
 returns : tie.Need-returns Inv-loop μ-loop
-returns c = search (needs, longer)
-
-shared-slice-read-x : tie.Need-shared-slice-read-x Inv-loop μ-loop
-shared-slice-read-x c = search needs
-
-shared-slice-read-y : tie.Need-shared-slice-read-y Inv-loop μ-loop
-shared-slice-read-y c = search needs
-
-returns-2 : tie.Need-returns-2 Inv-loop μ-loop
-returns-2 c = search (needs, differs)
+returns c = search (needs, differs)
 
 add-i : tie.Need-add-i Inv-loop μ-loop
 add-i c = search needs
@@ -66,10 +52,17 @@ loop-less : tie.Need-loop-less Inv-loop μ-loop
 loop-less c = search needs
 
 loop-again : tie.Need-loop-again Inv-loop μ-loop
-loop-again c = search (needs, tied)
+loop-again c =
+    let at = c .before .before .before .before in
+    let small = at .loop .inv .1 .0 in
+    let shorter = at .before .smaller .ensures in
+    (search needs, (small, tied _ _ (small .0) (small .1) _ _ _ _ (c .before .before .before .loop-test .taken) (shorter .0) (shorter .1) (at .loop .inv .1 .1) (c .before .before .number-at .ensures) (c .before .number-at2 .ensures) (c .if1 .left)))
 
-returns-3 : tie.Need-returns-3 Inv-loop μ-loop
-returns-3 c = search (needs, ended)
+lower-from-requires : tie.Need-lower-from-requires Inv-loop μ-loop
+lower-from-requires c κs = search needs
+
+returns-2 : tie.Need-returns-2 Inv-loop μ-loop
+returns-2 c = cc
 
 pub lower-spec : {M : Type 1} → statement M
 lower-spec =
@@ -77,12 +70,14 @@ lower-spec =
     (tie.spec
     Inv-loop
     μ-loop
+    smaller-requires
     loop-holds
+    add-loop
+    number-at-requires
+    number-at-requires-2
     returns
-    shared-slice-read-x
-    shared-slice-read-y
-    returns-2
     add-i
     loop-less
     loop-again
-    returns-3)
+    lower-from-requires
+    returns-2)

@@ -1,4 +1,4 @@
--- The invariant: no 0 stands before i. The measure is what is left of the length.
+-- The invariant: no 0 stands from the place on before i. The measure is what is left of the length.
 use Prim.Native.Nat.{ℕ, zero, suc, _+_, _-_, _≤_, _<_}
 use mathlib.Core.Path.{_≡_, refl}
 use native.Mathlib.Omega.{arith}
@@ -7,14 +7,14 @@ use mathlib.Core.List.{List, _∷_}
 use lib.ListN.{length, drop, getD, drop-of-length-le}
 use Rattle.wire.specs.Bytes.{zeroAt}
 use Rattle.wire.proofs.Parts.{drop-step}
-use Rattle.wire.proofs.zero_at.Statement.{statement}
-use Rattle.wire.proofs.zero_at.Tie as tie
+use Rattle.wire.proofs.zero_from.Statement.{statement}
+use Rattle.wire.proofs.zero_from.Tie as tie
 
 abbrev Inv-loop : tie.InvT-loop
-Inv-loop s i₀ i = (i ≤ length s) × (zeroAt s ≡ i + zeroAt (drop i s))
+Inv-loop s from i₀ i = (i ≤ length s) × (from + zeroAt (drop from s) ≡ i + zeroAt (drop i s))
 
 abbrev μ-loop : tie.MeasureT-loop
-μ-loop s i₀ i = length s - i
+μ-loop s from i₀ i = length s - i
 
 zero-first : (b : ℕ) (bs : List ℕ) → b ≡ 0 → zeroAt (b ∷ bs) ≡ 0
 unfolding zeroAt
@@ -26,31 +26,32 @@ unfolding zeroAt
 zero-later zero bs e = absurd (e refl)
 zero-later (suc b) bs e = refl
 
--- what the invariant says of zeroAt, where the loop is left at a 0, goes on, and ends
-found : (s : List ℕ) (i : ℕ) → i < length s → getD s i 0 ≡ 0 → zeroAt s ≡ i + zeroAt (drop i s) → i ≡ zeroAt s
-found s i h e inv = omega (arith, zero-first (getD s i 0) (drop (i + 1) s) e, rw (drop-step s i h) at inv)
+-- what the invariant says of the first 0, at z, where the loop is left at a 0, goes on, and ends
+module _ (s : List ℕ) (i z : ℕ) (inv : z ≡ i + zeroAt (drop i s)) where
+  found : i < length s → getD s i 0 ≡ 0 → i ≡ z
+  found h e = omega (arith, zero-first (getD s i 0) (drop (i + 1) s) e, rw (drop-step s i h) at inv)
 
-passed : (s : List ℕ) (i : ℕ) → i < length s → (getD s i 0 ≡ 0 → ⊥) → zeroAt s ≡ i + zeroAt (drop i s) → zeroAt s ≡ i + 1 + zeroAt (drop (i + 1) s)
-passed s i h e inv = omega (arith, zero-later (getD s i 0) (drop (i + 1) s) e, rw (drop-step s i h) at inv)
+  passed : i < length s → (getD s i 0 ≡ 0 → ⊥) → z ≡ i + 1 + zeroAt (drop (i + 1) s)
+  passed h e = omega (arith, zero-later (getD s i 0) (drop (i + 1) s) e, rw (drop-step s i h) at inv)
 
-ended : (s : List ℕ) (i : ℕ) → length s ≤ i → zeroAt s ≡ i + zeroAt (drop i s) → i ≡ zeroAt s
-unfolding zeroAt
-ended s i h inv = omega (arith, rw (drop-of-length-le s h) at inv)
+  ended : length s ≤ i → i ≡ z
+  unfolding zeroAt
+  ended h = omega (arith, rw (drop-of-length-le s h) at inv)
 
 loop-holds : tie.Need-loop-holds Inv-loop μ-loop
-loop-holds c = omega arith
+loop-holds c = search needs
 
 shared-slice-read-if1 : tie.Need-shared-slice-read-if1 Inv-loop μ-loop
-shared-slice-read-if1 c = omega arith
+shared-slice-read-if1 c = search needs
 
 returns : tie.Need-returns Inv-loop μ-loop
 returns c = search (needs, found)
 
 add-i : tie.Need-add-i Inv-loop μ-loop
-add-i c = omega arith
+add-i c = search needs
 
 loop-less : tie.Need-loop-less Inv-loop μ-loop
-loop-less c = omega arith
+loop-less c = search needs
 
 loop-again : tie.Need-loop-again Inv-loop μ-loop
 loop-again c = search (needs, passed)
@@ -58,8 +59,8 @@ loop-again c = search (needs, passed)
 returns-2 : tie.Need-returns-2 Inv-loop μ-loop
 returns-2 c = search (needs, ended)
 
-pub zero-at-spec : {M : Type 1} → statement M
-zero-at-spec =
+pub zero-from-spec : {M : Type 1} → statement M
+zero-from-spec =
     tie.close
     (tie.spec
     Inv-loop
