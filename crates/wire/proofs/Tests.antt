@@ -31,6 +31,17 @@ both-right false b h = absurd (false≢true h)
 
 pub ruleset both = (both-left, both-right)
 
+-- the sides of a test `a || b` that fails: `search neither` proves each from the whole
+pub neither-left : (a b : Bool) → (a || b) ≡ false → a ≡ false
+neither-left true b h = h
+neither-left false b h = refl
+
+pub neither-right : (a b : Bool) → (a || b) ≡ false → b ≡ false
+neither-right true b h = absurd (false≢true (sym h))
+neither-right false b h = h
+
+pub ruleset neither = (neither-left, neither-right)
+
 -- ---- as the type `T`
 
 pub pass : {b : Bool} → b ≡ true → T b

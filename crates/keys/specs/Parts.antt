@@ -1,0 +1,28 @@
+-- The parts of a key's bytes: what stands before its label, and what after it.
+use Prim.Native.Nat.{ℕ}
+use mathlib.Core.Bool.{cond}
+use mathlib.Core.List.{[], _∷_, _++_}
+use Rattle.wire.specs.Bytes.{Bytes, bigEndian}
+use Rattle.dots.specs.Names.{Name}
+use Rattle.keys.specs.declared.KeyKind.{KeyKind}
+use Rattle.keys.specs.declared.KeyKind.the-variants.{ClockKey, TombstoneKey, LabelKey, EndKey}
+use Rattle.keys.specs.Key.{hasLabel, hasActor}
+
+-- magic byte, version byte, name, 00, type byte
+abbrev pub frontBytes : Name → ℕ → Bytes
+frontBytes name type = 0x02 ∷ 0x01 ∷ (name ++ (0 ∷ type ∷ []))
+
+-- actor, 00, counter, where the type has them
+abbrev pub actorCounter : KeyKind → ℕ → ℕ → Bytes
+actorCounter kind actor counter = cond (hasActor kind) (actor ∷ []) [] ++ (0 ∷ cond (hasLabel kind) (bigEndian 8 counter) [])
+
+-- the bytes after the label: its 00, and these
+abbrev pub tailBytes : KeyKind → ℕ → ℕ → Bytes
+tailBytes kind actor counter = 0 ∷ actorCounter kind actor counter
+
+-- their number
+abbrev pub tailLength : KeyKind → ℕ
+tailLength ClockKey = 3
+tailLength TombstoneKey = 3
+tailLength LabelKey = 11
+tailLength EndKey = 2
