@@ -78,7 +78,7 @@ place-le d (x ∷ ds) = go (isLt (compareDots x d)) (place-le d ds)
     go false h = omega arith
 
 -- the two ways to compare
-above-not : (d x : Dot) → Less compareDots d x → isLt (compareDots x d) ≡ false
+pub above-not : (d x : Dot) → Less compareDots d x → isLt (compareDots x d) ≡ false
 above-not d x h = untrue (isLt (compareDots x d)) (λ t. irreflexive compareDots dots d (dots .chain d x d h (lt-is (compareDots x d) t)))
 
 pub insert-split : (d : Dot) (ds : List Dot) → member compareDots d ds ≡ false → insert compareDots d ds ≡ take (placeOf d ds) ds ++ (d ∷ drop (placeOf d ds) ds)

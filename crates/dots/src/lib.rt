@@ -1,14 +1,15 @@
 // Dots, contexts, names and answers: the terms that keys, messages, clock and calls share.
 ghost use mathlib.Core.Path.{_≡_};
-ghost use mathlib.Core.Bool.{cond};
+ghost use mathlib.Core.Bool.{true, cond};
+ghost use mathlib.Core.List.{_++_};
 ghost use Prim.Native.Nat.{_+_, _*_, _≤_};
 ghost use lib.Dec.{isEq};
-ghost use lib.ListN.{length};
-ghost use Rattle.wire.specs.Lists.{isLt, member};
+ghost use lib.ListN.{length, take, drop};
+ghost use Rattle.wire.specs.Lists.{isLt, member, insert};
 ghost use Rattle.dots.specs.Answer.{numberOf};
 ghost use Rattle.dots.specs.Names.{textOk, nameOk, labelOk};
 ghost use Rattle.dots.specs.Dots.{compareDots, dotOk, ascendingDots, contextOk};
-ghost use Rattle.dots.specs.Wire.{dotBytes, dotAt, dotsOf, placeOf};
+ghost use Rattle.dots.specs.Wire.{dotBytes, dotsBytes, dotAt, dotsOf, placeOf};
 
 // ---- answers
 
@@ -199,4 +200,63 @@ pub fn place_of(dots: &[u8], dot: Dot) -> usize
         i = i + 1;
     }
     i
+}
+
+// ---- ascending dots
+
+// How many of the ascending dots come before the dot, found by halving.
+pub fn search_dot(dots: &[u8], dot: Dot) -> usize
+    requires { ⌜ ascendingDots (dotsOf (now dots)) ≡ true ⌝ }
+    ensures { λ r. ⌜ (r ≡ placeOf dot (dotsOf (now (dots .entry)))) × (r * 9 ≤ length (now (dots .entry))) ⌝ }
+{
+    let mut low: usize = 0;
+    let mut high = dots.len() / 9;
+    while low < high {
+        let middle = low + (high - low) / 2;
+        let d = dot_at(dots, middle * 9);
+        if dot_lower(d, dot) {
+            low = middle + 1;
+        } else {
+            high = middle;
+        }
+    }
+    low
+}
+
+// Whether the dot is one of the ascending dots.
+pub fn holds_dot(dots: &[u8], dot: Dot) -> bool
+    requires { ⌜ ascendingDots (dotsOf (now dots)) ≡ true ⌝ }
+    ensures { λ r. ⌜ r ≡ member compareDots dot (dotsOf (now (dots .entry))) ⌝ }
+{
+    if dots.len() < 9 {
+        return false;
+    }
+    let at = search_dot(dots, dot) * 9;
+    if dots.len() - at < 9 {
+        return false;
+    }
+    same_dot(dot, dot_at(dots, at))
+}
+
+// Puts the dot in its place among the first `count`, which ascend, once. Returns how many there are then.
+fn insert_among(bytes: &mut [u8], count: usize, dot: Dot) -> usize
+    requires { ⌜ (length (now bytes) ≡ 1152) × (count ≤ 128) × (ascendingDots (dotsOf (take (count * 9) (now bytes))) ≡ true) × (dotOk dot ≡ true) × (length (insert compareDots dot (dotsOf (take (count * 9) (now bytes)))) ≤ 128) ⌝ }
+    ensures { λ r. ⌜ (r ≡ length (insert compareDots dot (dotsOf (take (count * 9) (now (bytes .entry)))))) × (now (bytes .exit) ≡ dotsBytes (insert compareDots dot (dotsOf (take (count * 9) (now (bytes .entry))))) ++ drop (r * 9) (now (bytes .entry))) ⌝ }
+{
+    let used = count * 9;
+    if holds_dot(&bytes[..used], dot) {
+        return count;
+    }
+    let at = search_dot(&bytes[..used], dot) * 9;
+    let piece = dot_bytes(dot);
+    wire::insert_piece(bytes, used, at, &piece);
+    count + 1
+}
+
+// The same in the bytes of a tombstone.
+pub fn insert_dot(bytes: &mut [u8; 1152], count: usize, dot: Dot) -> usize
+    requires { ⌜ (length (now bytes) ≡ 1152) × (count ≤ 128) × (ascendingDots (dotsOf (take (count * 9) (now bytes))) ≡ true) × (dotOk dot ≡ true) × (length (insert compareDots dot (dotsOf (take (count * 9) (now bytes)))) ≤ 128) ⌝ }
+    ensures { λ r. ⌜ (r ≡ length (insert compareDots dot (dotsOf (take (count * 9) (now (bytes .entry)))))) × (now (bytes .exit) ≡ dotsBytes (insert compareDots dot (dotsOf (take (count * 9) (now (bytes .entry))))) ++ drop (r * 9) (now (bytes .entry))) ⌝ }
+{
+    insert_among(bytes, count, dot)
 }

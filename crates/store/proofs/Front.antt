@@ -1,0 +1,190 @@
+-- The key at the front of some bytes: the tests of its bytes, after the prefix and whole, are the rules of a stored key. Assumes nothing.
+use mathlib.Core.Path.{_≡_, refl, sym, ap, _∙_}
+use mathlib.Core.Bool.{Bool, true, false, not, cond, _&&_, and-assoc}
+use mathlib.Core.List.{List, [], _∷_}
+use mathlib.Core.Option.{none, some}
+use Prim.Native.Nat.{ℕ, zero, suc, _+_, _-_, _≤_, _<_, _^_, min}
+use native.Mathlib.Decide.{decLe}
+use native.Mathlib.Omega.{arith}
+use mir.Val.{Fits}
+use mir.Syntax.{w8, w64}
+use lib.Dec.{leb, eqb}
+use lib.ListN.{length, take, drop, getD, length-append, length-take, length-drop}
+use lib.Seq.{take-all, take-take, getD-take, length-take-le}
+use borrow.Author.Tests.{not-true, not-false, eqb-true, eq-eqb, ne-eqb}
+use Rattle.wire.specs.Bytes.{Bytes, numberAt, zeroAt, startsWith}
+use Rattle.wire.proofs.Tests.{both}
+use Rattle.wire.proofs.ByteOrder.{starts-split}
+use Rattle.wire.proofs.Parts.{rest-part, drop-take}
+use Rattle.wire.proofs.Fields.{bytes-take}
+use Rattle.dots.specs.Names.{Name, nameOk}
+use Rattle.dots.specs.Dots.{actorOf, dotOf}
+use Rattle.dots.specs.Entries.{Entry}
+use Rattle.keys.specs.Entry.{prefix}
+use Rattle.keys.specs.Tests.{labelAfter, entryAfter, entryBy}
+use Rattle.keys.proofs.EntryKeys.{length-prefix}
+use Rattle.keys.proofs.EntryTests.{entry-tests}
+use Rattle.clock.specs.Clock.{sees}
+use Rattle.store.specs.Cut.{keyLength}
+use Rattle.store.specs.Valid.{seenEntry, keyOk}
+use Rattle.store.specs.Front.{frontLength, afterLength}
+
+-- ---- a front of bytes: its first 0, and what it begins with
+
+zeroAt-take : (m : ℕ) (t : Bytes) → zeroAt (take m t) ≡ min m (zeroAt t)
+unfolding zeroAt
+zeroAt-take zero t = omega arith
+zeroAt-take (suc m) [] = omega arith
+zeroAt-take (suc m) (zero ∷ t) = omega arith
+zeroAt-take (suc m) (suc b ∷ t) = omega (arith, zeroAt-take m t)
+
+starts-take : (a : Bytes) (m : ℕ) (s : Bytes) → length a ≤ m → startsWith a (take m s) ≡ startsWith a s
+unfolding startsWith
+starts-take [] m s h = refl
+starts-take (x ∷ a) zero s h = absurd (omega arith)
+starts-take (x ∷ a) (suc m) [] h = refl
+starts-take (x ∷ a) (suc m) (y ∷ s) h = ap (λ b. eqb y x && b) (starts-take a m s (omega arith))
+
+-- ---- what follows the prefix
+
+module _ (words : List ℕ) (t : Bytes) (n : ℕ) (label : n ≡ zeroAt t) where
+  pub after-short : length t < n + 11 → 0 ≡ afterLength words t
+  unfolding afterLength labelAfter
+  after-short h =
+      let all : take (zeroAt t + 11) t ≡ t = take-all (zeroAt t + 11) t (omega arith) in
+      rw (all, ne-eqb (length t) (zeroAt t + 11) (λ e. omega arith))
+
+  -- the tests on the bytes themselves
+  module _ (fits : n + 11 ≤ length t) (event : ℕ) (counter : event ≡ numberAt 8 t (n + 3)) (seen : Bool) (known : seen ≡ sees words (dotOf (actorOf (getD t (n + 1) 0)) event)) where
+    abbrev tests : Bool
+    tests = leb 1 n && leb n 32 && (leb 1 (getD t (n + 1) 0) && leb (getD t (n + 1) 0) 16) && eqb (getD t (n + 2) 0) 0 && leb 1 event && seen
+
+    tested : afterLength words t ≡ cond tests (n + 11) 0
+    unfolding afterLength labelAfter
+    tested =
+        let u : Bytes = take (n + 11) t in
+        let zero-at : zeroAt u ≡ n = zeroAt-take (n + 11) t ∙ omega arith in
+        let whole : length u ≡ n + 11 = length-take-le (n + 11) t fits in
+        let eight : n + 11 - (n + 3) ≡ 8 = omega arith in
+        let number : numberAt 8 u (n + 3) ≡ event = rw (drop-take (n + 3) (n + 11) t, eight, take-take 8 8 (drop (n + 3) t) (omega arith)) (sym counter) in
+        rw (← label, zero-at, whole, eq-eqb (n + 11) (n + 11) refl, number, getD-take (n + 11) t (n + 1) 0 (omega arith), getD-take (n + 11) t (n + 2) 0 (omega arith), ← known)
+
+    pub after-passed : tests ≡ true → n + 11 ≡ afterLength words t
+    after-passed h = sym (tested ∙ rw h)
+
+    pub after-failed : tests ≡ false → 0 ≡ afterLength words t
+    after-failed h = sym (tested ∙ rw h)
+
+-- ---- the whole key
+
+pub starts-fit : (name s : Bytes) → startsWith (prefix name) s ≡ true → length name + 4 ≤ length s
+starts-fit name s h = omega (arith, length-append (prefix name) (drop (length (prefix name)) s), ap length (starts-split (prefix name) s h), length-prefix name)
+
+seen-cond : (words : List ℕ) (b : Bool) (e : Entry) → seenEntry words (cond b (some e) none) ≡ (b && sees words (e .dot))
+seen-cond words true e = refl
+seen-cond words false e = refl
+
+module _ (name : Name) (words : List ℕ) (s : Bytes) where
+  -- what follows the prefix, the first key, and what follows the prefix in it
+  t : Bytes
+  t = drop (length name + 4) s
+
+  k : Bytes
+  k = take (keyLength (length name) s) s
+
+  u : Bytes
+  unfolding t
+  u = take (zeroAt t + 11) t
+
+  key-tail : drop (length name + 4) k ≡ u
+  unfolding t k u keyLength
+  key-tail =
+      let len : ℕ = keyLength (length name) s in
+      let p : ℕ = length name + 4 in
+      let size : length t ≡ length s - p = length-drop p s in
+      drop-take p len s ∙ elim (decLe (length s) (p + (zeroAt t + 11))) [
+        | yes h ↦
+            let most : length t ≤ len - p = omega arith in
+            let most′ : length t ≤ zeroAt t + 11 = omega arith in
+            take-all (len - p) t most ∙ sym (take-all (zeroAt t + 11) t most′)
+        | no h ↦ let same : len - p ≡ zeroAt t + 11 = omega arith in rw same
+      ]
+
+  key-starts : startsWith (prefix name) k ≡ startsWith (prefix name) s
+  unfolding k keyLength
+  key-starts =
+      let len : ℕ = keyLength (length name) s in
+      elim (decLe (length name + 4) len) [
+        | yes h ↦ starts-take (prefix name) len s (rw length-prefix h)
+        | no h ↦ let all : length s ≤ len = omega arith in rw (take-all len s all)
+      ]
+
+  -- a key that keeps the rules has all its bytes
+  room : startsWith (prefix name) s ≡ true → labelAfter u ≡ true → length name + 4 + (zeroAt t + 11) ≤ length s
+  unfolding t u labelAfter
+  room begins h =
+      let front : length name + 4 ≤ length s = starts-fit name s begins in
+      let whole : length u ≡ zeroAt u + 11 = eqb-true (length u) (zeroAt u + 11) (search both) in
+      let ends : zeroAt u ≡ zeroAt t = zeroAt-take (zeroAt t + 11) t ∙ omega arith in
+      omega (arith, length-take (zeroAt t + 11) t, length-drop (length name + 4) s)
+
+  module _ (named : nameOk name ≡ true) (small : (i : ℕ) → Fits w8 (getD s i 0)) where
+    key-tests : keyOk name words k ≡ (startsWith (prefix name) s && (labelAfter u && sees words (entryAfter u .dot)))
+    unfolding k entryBy
+    key-tests =
+        rw (entry-tests name k named (bytes-take s (keyLength (length name) s) (λ i. small i .fits)), key-tail, key-starts, seen-cond) (and-assoc (startsWith (prefix name) s) (labelAfter u) (sees words (entryAfter u .dot)))
+
+    module _ (start : Bytes) (is-start : start ≡ prefix name) (r : Bool) (begins : r ≡ startsWith start s) where
+      is-begun : r ≡ startsWith (prefix name) s
+      is-begun = rw is-start at begins
+
+      pub front-other : not r ≡ true → 0 ≡ frontLength name words s
+      unfolding frontLength k
+      front-other d = rw (key-tests, ← is-begun, not-true r d)
+
+      module _ (d : not r ≡ false) where
+        is-prefixed : startsWith (prefix name) s ≡ true
+        is-prefixed = sym is-begun ∙ not-false r d
+
+        pub front-fits : length name + 4 ≤ length s
+        front-fits = starts-fit name s is-prefixed
+
+        module _ (len : ℕ) (read : len ≡ afterLength words (take (length s - (length name + 4)) (drop (length name + 4) s))) where
+          passes : Bool
+          passes = labelAfter u && sees words (entryAfter u .dot)
+
+          len-is : len ≡ cond passes (zeroAt t + 11) 0
+          unfolding afterLength t u passes
+          len-is = rw rest-part at read
+
+          front-is : frontLength name words s ≡ cond passes (keyLength (length name) s) 0
+          unfolding frontLength k passes
+          front-is = rw (key-tests, is-prefixed)
+
+          pub front-refused : len ≡ 0 → 0 ≡ frontLength name words s
+          front-refused e = sym (front-is ∙ by-tests passes len-is)
+            where
+              by-tests : (b : Bool) → len ≡ cond b (zeroAt t + 11) 0 → cond b (keyLength (length name) s) 0 ≡ 0
+              by-tests true f = absurd (omega arith)
+              by-tests false f = refl
+
+          module _ (some : len ≡ 0 → ⊥) where
+            passed : passes ≡ true
+            passed = by-tests passes len-is
+              where
+                by-tests : (b : Bool) → len ≡ cond b (zeroAt t + 11) 0 → b ≡ true
+                by-tests true f = refl
+                by-tests false f = absurd (some f)
+
+            pub front-end : length s < 2 ^ 64 → Fits w64 (length name + 4 + len)
+            unfolding passes
+            front-end h =
+                let all : passes ≡ true = passed in
+                omega (arith, room is-prefixed (search both), rw passed at len-is)
+
+            pub front-passed : length name + 4 + len ≡ frontLength name words s
+            unfolding passes t keyLength
+            front-passed =
+                let all : passes ≡ true = passed in
+                let full : length name + 4 + (zeroAt t + 11) ≤ length s = room is-prefixed (search both) in
+                sym (front-is ∙ rw passed (omega (arith, rw passed at len-is)))

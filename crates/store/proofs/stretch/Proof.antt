@@ -1,0 +1,54 @@
+-- The stretch from what the keys of the label begin with, as it was put.
+use Prim.Native.Nat.{ℕ, _+_, _≤_}
+use mathlib.Core.Path.{_≡_}
+use mathlib.Core.Bool.{true}
+use native.Mathlib.Omega.{arith}
+use lib.ListN.{length, take, drop}
+use denote.Ref.{RefT}
+use Rattle.wire.specs.Bytes.{Bytes, startsWith, putAt, IsPart}
+use Rattle.dots.specs.Names.{Name, Label, nameOk, labelOk}
+use Rattle.store.specs.Cut.{keysOf}
+use Rattle.store.specs.Place.{lengthWhile, placeIn, labelStart, stretchStart, stretchEnd}
+use Rattle.store.proofs.Starts.{name-most, label-most, length-label-start, put-read, put-size, put-room}
+use borrow.Author.Needs.{needs}
+use Rattle.store.proofs.stretch.Statement.{statement}
+use Rattle.store.proofs.stretch.Tie as tie
+
+fits : (name : Name) (label : Label) → nameOk name ≡ true → labelOk label ≡ true → length name + length label + 5 ≤ 53
+fits name label ok ok′ = omega (arith, name-most name ok, label-most label ok′)
+
+module _ (name : Name) (label : Label) (s t : Bytes) (n : ℕ) (put : t ≡ putAt s 0 (labelStart name label)) (count : n ≡ length name + length label + 5) where
+  stretched : (keys r : RefT Bytes)
+      → IsPart keys (placeIn (take n t) (keysOf (length name) (keys .now))) (placeIn (take n t) (keysOf (length name) (keys .now)) + lengthWhile (startsWith (take n t)) (keysOf (length name) (drop (placeIn (take n t) (keysOf (length name) (keys .now))) (keys .now)))) r
+      → IsPart keys (stretchStart name label (keys .now)) (stretchEnd name label (keys .now)) r
+  unfolding stretchStart stretchEnd
+  stretched keys r part = rw (put-read s t (labelStart name label) n (length name + length label + 5) put count (length-label-start name label)) at part
+
+slice-aggregate-put-label-start : tie.Need-slice-aggregate-put-label-start
+slice-aggregate-put-label-start c = search needs
+
+put-label-start-requires : tie.Need-put-label-start-requires
+put-label-start-requires c κs = search (needs, fits)
+
+array-share-prefix-start : tie.Need-array-share-prefix-start
+array-share-prefix-start c = search (needs, put-room, length-label-start)
+
+slice-aggregate-stretch-from : tie.Need-slice-aggregate-stretch-from
+slice-aggregate-stretch-from c = search (needs, put-size, length-label-start)
+
+stretch-from-requires : tie.Need-stretch-from-requires
+stretch-from-requires c κs = search (needs, name-most)
+
+returns : tie.Need-returns
+returns c = search (needs, stretched)
+
+pub stretch-spec : {M : Type 1} → statement M
+stretch-spec =
+    tie.close
+    (tie.spec
+    slice-aggregate-put-label-start
+    put-label-start-requires
+    array-share-prefix-start
+    slice-aggregate-stretch-from
+    stretch-from-requires
+    returns)

@@ -1,0 +1,21 @@
+-- The key at the front of some bytes, as the pass over a store reads it.
+use Prim.Native.Nat.{ℕ, _+_}
+use mathlib.Core.Bool.{cond, _&&_}
+use mathlib.Core.List.{List}
+use lib.ListN.{length, take}
+use Rattle.wire.specs.Bytes.{Bytes, zeroAt}
+use Rattle.dots.specs.Names.{Name}
+use Rattle.keys.specs.Tests.{labelAfter, entryAfter}
+use Rattle.clock.specs.Clock.{sees}
+use Rattle.store.specs.Cut.{keyLength}
+use Rattle.store.specs.Valid.{keyOk}
+
+-- how long the key at the front is, if it is a label key of the set whose dot the clock sees; else 0
+unfoldable pub frontLength : Name → List ℕ → Bytes → ℕ
+frontLength name words s = let len = keyLength (length name) s in cond (keyOk name words (take len s)) len 0
+
+-- the same for what follows the prefix: label, 00, actor, 00 and counter
+unfoldable pub afterLength : List ℕ → Bytes → ℕ
+afterLength words t =
+    let len = zeroAt t + 11 in
+    cond (labelAfter (take len t) && sees words (entryAfter (take len t) .dot)) len 0
