@@ -1,10 +1,11 @@
 -- What the acceptance of an own add, an own remove or a compaction says: every refusal of its table fails. Assumes nothing.
 use Prim.Native.Nat.{ℕ, _+_}
-use mathlib.Core.Path.{_≡_, refl, ap}
+use mathlib.Core.Path.{_≡_, refl, ap, subst}
 use mathlib.Core.Logic.{_⊎_, inl, inr}
 use mathlib.Core.Bool.{true, false, _&&_}
 use mathlib.Core.List.{List, [], _∷_, List·Memᴰ·cases-cons}
 use native.Mathlib.Omega.{arith}
+use lib.Dec.{T}
 use borrow.Author.Needs.{needs}
 use borrow.Author.Tests.{not-false, not-true}
 use Rattle.wire.specs.Lists.{_∈_, any, all, keep, member}
@@ -22,10 +23,10 @@ use Rattle.dots.proofs.Table.{none-holds}
 use Rattle.dots.proofs.Rules.{ascending-valid}
 use Rattle.clock.specs.Clock.{sees}
 use Rattle.messages.specs.Message.{messageOk}
-use Rattle.replica.specs.Machine.{ownAdd, ownRemove, unseen, joining, ownBase, nextDot, aboveOwnBase, effect, allowed}
+use Rattle.replica.specs.Machine.{Call, ownAdd, ownRemove, unseen, joining, ownBase, nextDot, aboveOwnBase, apply, mayApply, effect, allowed}
 use Rattle.controller.specs.declared.State.{State}
 use Rattle.controller.specs.State.{clockModel, Machine, nameOf, view}
-use Rattle.controller.specs.Refusals.{badContext, hasDot}
+use Rattle.controller.specs.Refusals.{badContext, hasDot, ownAhead, tooFar, tombstoneFull}
 use Rattle.controller.specs.Calls.{addDot, ownAddRefusals, ownAddDone, ownAddResult, ownRemoveRefusals, ownRemoveDone, ownRemoveResult, compactRefusals, compactDone, compactResult}
 use Rattle.controller.proofs.Decided.{decided-done}
 use Rattle.controller.proofs.Clauses.{Undamaged, undamaged, name-ok, rows-ok}
@@ -55,6 +56,30 @@ module _ (m : Machine) (offered : List Dot) (ahead : any (aboveOwnBase clockMode
 
 -- ---- own remove
 
+-- a call that applies a context and no more, be it an own remove or one taken in
+pub context-applies : (st : State) (store : Bytes) (call : Call) (context : Context)
+    → effect clockModel (view st store) call ≡ apply clockModel (view st store) [] context → mayApply clockModel (view st store) [] [] context ≡ allowed clockModel (view st store) call
+    → Undamaged st store → all dotOk context ≡ true → ownAhead st store context ≡ false → tooFar st store context ≡ false → tombstoneFull st store call ≡ false
+    → Applies st store call
+unfolding any all view
+context-applies st store call context effect-is allowed-is u ok ahead far full =
+    let m : Machine = view st store in
+    let fits = may-join m context (rows-ok st store u) ok (not-false _ far) in
+    record {
+      fresh = [];
+      context = context;
+      effect-is = effect-is;
+      whole = u;
+      fresh-ok = refl;
+      context-ok = ok;
+      allows = subst T allowed-is (may-apply m [] context [] fits ahead);
+      fits = fits;
+      own-next = λ n k. absurd (own-joins-not m context ahead ok n k);
+      tombstone-has-room = full;
+      at-most-one = omega arith;
+      store-has-room = refl;
+    }
+
 module _ (st : State) (store context out : Bytes) where
   pub record RemoveAccepted : Type 0 where
     pub result-is : ownRemoveResult st store context out ≡ ownRemoveDone st store context out
@@ -62,35 +87,18 @@ module _ (st : State) (store context out : Bytes) where
     pub message-ok : messageOk (nameOf st) (remove (dotsOf context)) ≡ true
 
   pub remove-accepted : numberOf (ownRemoveResult st store context out .answer) ≡ 0 → RemoveAccepted
-  unfolding ownRemoveResult effect allowed messageOk any view all
+  unfolding ownRemoveResult effect allowed messageOk
   remove-accepted acc =
-      let m : Machine = view st store in
       let ds : Context = dotsOf context in
       let refusals = ownRemoveRefusals st store context out in
       let d = decided-done st store out refusals (ownRemoveDone st store context out) refl acc in
       let passed = none-holds refusals (search needs) (d .1) in
       let u = undamaged st store (passed .0) in
       let rule = context-rule context (passed .1 .0) in
-      let ok = context-dots ds rule in
-      let ahead = passed .1 .1 .0 in
-      let fits = may-join m ds (rows-ok st store u) ok (not-false _ (passed .1 .1 .1 .0)) in
       record {
         result-is = d .0;
         message-ok = rw (name-ok st store u, rule);
-        applies = record {
-          fresh = [];
-          context = ds;
-          effect-is = refl;
-          whole = u;
-          fresh-ok = refl;
-          context-ok = ok;
-          allows = may-apply m [] ds [] fits ahead;
-          fits = fits;
-          own-next = λ n k. absurd (own-joins-not m ds ahead ok n k);
-          tombstone-has-room = passed .1 .1 .1 .1 .0;
-          at-most-one = omega arith;
-          store-has-room = refl;
-        };
+        applies = context-applies st store (ownRemove ds) ds refl refl u (context-dots ds rule) (passed .1 .1 .0) (passed .1 .1 .1 .0) (passed .1 .1 .1 .1 .0);
       }
 
 -- ---- own add

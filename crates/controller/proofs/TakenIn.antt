@@ -33,7 +33,7 @@ use Rattle.controller.proofs.Decided.{decided-done}
 use Rattle.controller.proofs.Clauses.{Undamaged, undamaged, rows-ok}
 use Rattle.controller.proofs.Guard.{entry-ok, may-join, may-apply, may-add}
 use Rattle.controller.proofs.Applied.{Applies}
-use Rattle.controller.proofs.Accepted.{context-dots, own-joins-not}
+use Rattle.controller.proofs.Accepted.{context-dots, own-joins-not, context-applies}
 
 -- ---- an add's entry, stored where its dot is unseen
 
@@ -93,24 +93,7 @@ module _ (st : State) (store : Bytes) (name : Name) (u : Undamaged st store) whe
         at-most-one = unseen-few m label d;
         store-has-room = room;
       }
-  taken-applies (remove context) names dots ahead far full room =
-      let m : Machine = view st store in
-      let ok = context-dots context dots in
-      let fits = may-join m context (rows-ok st store u) ok (not-false _ far) in
-      record {
-        fresh = [];
-        context = context;
-        effect-is = refl;
-        whole = u;
-        fresh-ok = refl;
-        context-ok = ok;
-        allows = may-apply m [] context [] fits ahead;
-        fits = fits;
-        own-next = λ n k. absurd (own-joins-not m context ahead ok n k);
-        tombstone-has-room = full;
-        at-most-one = omega arith;
-        store-has-room = refl;
-      }
+  taken-applies (remove context) names dots ahead far full room = context-applies st store (takeIn (remove context)) context refl refl u (context-dots context dots) ahead far full
 
 module _ (st : State) (store message : Bytes) where
   pub record TakeInAccepted : Type 0 where
