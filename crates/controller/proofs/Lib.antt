@@ -2,6 +2,7 @@
 -- Clauses: what undamaged says. Guard, Applied, Accepted, TakenIn: what a call's acceptance says. Instance: the calls as a controller of the machine.
 -- Sequences: calls in a row. Demand3: demand 3. OwnRow, Whole, Undamaged: an accepted call leaves an undamaged state. Cases: document 01's cases.
 -- Parts, DotLoops, Joining, DamageTest, TombstoneBytes: laws for the functions of the crate.
+-- Performed, OwnRemove: own remove. ReadCalls: listing and lookup. Compacting: compaction.
 pub mod Validity
 pub mod Decided
 pub mod Reading
@@ -22,3 +23,7 @@ pub mod DotLoops
 pub mod Joining
 pub mod DamageTest
 pub mod TombstoneBytes
+pub mod Performed
+pub mod OwnRemove
+pub mod ReadCalls
+pub mod Compacting

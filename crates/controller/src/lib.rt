@@ -1,30 +1,35 @@
 // The controller: state, and the public calls on bytes.
 ghost use mathlib.Core.Path.{_≡_};
-ghost use mathlib.Core.Bool.{true, cond, _&&_};
+ghost use mathlib.Core.Bool.{true, cond, _&&_, not, false};
 ghost use mathlib.Core.List.{[], _∷_};
 ghost use Prim.Native.Nat.{_+_, _*_, _≤_};
 ghost use lib.Dec.{eqb, leb, ltb};
 ghost use lib.ListN.{length, take};
 ghost use Rattle.wire.specs.Lists.{all, any, keep, member, insert, insertAll};
-ghost use Rattle.dots.specs.Answer.{firstOf};
+ghost use Rattle.dots.specs.Answer.{firstOf, numberOf};
 ghost use Rattle.dots.specs.Names.{nameMost, nameOk, labelOk};
 ghost use Rattle.dots.specs.Dots.{dotOf, dotOk, compareDots, ascendingDots};
 ghost use Rattle.dots.specs.Wire.{dotsOf};
 ghost use Rattle.clock.specs.Clock.{sees, rowAt, joinAll, near};
 ghost use Rattle.clock.specs.Row.{windowWidth};
 ghost use Rattle.clock.specs.Reach.{Offer, OfferWith};
-ghost use Rattle.dots.specs.Entries.{entry};
+ghost use Rattle.dots.specs.Entries.{entry, Entry};
 ghost use Rattle.dots.specs.Message.{add, remove};
 ghost use Rattle.messages.specs.Write.{WholeContext, Wrote};
-ghost use Rattle.store.specs.Place.{insertedEntry};
-ghost use Rattle.store.specs.Valid.{storeOk};
+ghost use Rattle.store.specs.Place.{insertedEntry, stretchStart, stretchEnd};
+ghost use Rattle.store.specs.Valid.{storeOk, keysFit};
 ghost use Rattle.controller.specs.Damage.{zeroFrom, tombstoneMost, damaged as isDamaged};
-ghost use Rattle.controller.specs.State.{nameOf};
-ghost use Rattle.controller.specs.Tests.{stateOk, stateWith, aheadOf, joinsTombstone, Tombstoned, Padded, ContextFits, earlyRefusals, lateRefusals};
-ghost use Rattle.controller.specs.Refusals.{badContext};
-ghost use Rattle.controller.specs.Effect.{padded, tombstoneOf};
-ghost use Rattle.controller.specs.Calls.{freshState, setUp, ownAddResult, ownRemoveResult, takeInResult, listResult, compactResult};
+ghost use Rattle.controller.specs.State.{clockModel, view, tombstoneDots};
+ghost use Rattle.controller.specs.Tests.{stateOk, stateWith, aheadOf, joinsTombstone, Tombstoned, Padded, ContextFits, earlyRefusals, lateRefusals, Answers, MayRemove, Removed};
+ghost use Rattle.controller.specs.Refusals.{badContext, ownAhead};
+ghost use Rattle.controller.specs.Effect.{padded, tombstoneOf, stateOf, storeOf};
+ghost use Rattle.controller.specs.Calls.{freshState, setUp, ownRemoveResult, listResult, compactResult, lookupRefusals, ownRemoveRefusals};
 ghost use Rattle.controller.specs.Promise.{Leaves, Lists, LooksUp};
+ghost use Rattle.wire.specs.Bytes.{IsPart};
+ghost use Rattle.store.specs.Cut.{entriesIn};
+ghost use Rattle.store.specs.Listing.{linesOfLive};
+ghost use Rattle.controller.specs.Reads.{Readable, linesIn, ListsLines};
+ghost use Rattle.replica.specs.Machine.{compacted};
 
 // A set name: its first len bytes; the others are 0.
 pub struct SetName {
@@ -448,5 +453,244 @@ pub fn set_up(actor: u8, name: &[u8]) -> SetUp
     SetUp {
         answer: dots::Answer::Done,
         state: fresh_state(actor, name),
+    }
+}
+
+// ---- own remove
+
+// The refusals 1, 6 and 8 of an own remove.
+fn remove_early(state: State, store: &[u8], context: &[u8]) -> dots::Answer
+    ensures { λ r. ⌜ r ≡ firstOf (earlyRefusals (isDamaged state (now (store .entry))) false (badContext (now (context .entry))) (ownAhead state (now (store .entry)) (dotsOf (now (context .entry)))) false) ⌝ }
+{
+    let words = state.clock.words;
+    let own = state.actor;
+    let base = own_base(&words, own);
+    let damage = damaged(state, store);
+    let dot = context_bad(context);
+    let ahead = own_ahead(own, base, context);
+    early_answer(damage, false, dot, ahead, false)
+}
+
+// The refusals 10, 11 and 13 of an own remove.
+fn remove_late(state: State, context: &[u8], room: usize) -> dots::Answer
+    requires { ⌜ (stateOk state ≡ true) × ContextFits (now context) ⌝ }
+    ensures { λ r. ⌜ r ≡ firstOf (lateRefusals (not (near windowWidth (state .clock .words) (dotsOf (now (context .entry))))) (ltb tombstoneMost (length (insertAll compareDots (keep (sees (state .clock .words)) (dotsOf (now (context .entry)))) (tombstoneDots state)))) false (ltb room (state .name .len + length (now (context .entry)) + 8))) ⌝ }
+{
+    let words = state.clock.words;
+    let bytes = state.tombstone.bytes;
+    let close = clock::near_context(&words, context);
+    let full = tombstone_full(&words, &bytes, state.tombstone.count, context);
+    late_answer(!close, full, false, room < state.name.len + context.len() + 8)
+}
+
+// The state with a context applied.
+fn removed_state(state: State, context: &[u8]) -> State
+    requires { ⌜ (stateOk state ≡ true) × ContextFits (now context) × (near windowWidth (state .clock .words) (dotsOf (now context)) ≡ true) × (length (insertAll compareDots (keep (sees (state .clock .words)) (dotsOf (now context))) (tombstoneDots state)) ≤ 128) ⌝ }
+    ensures { λ r. ⌜ r ≡ stateWith state (joinAll windowWidth (state .clock .words) (dotsOf (now (context .entry)))) (tombstoneOf (insertAll compareDots (keep (sees (state .clock .words)) (dotsOf (now (context .entry)))) (tombstoneDots state))) (state .used) ⌝ }
+{
+    let words = state.clock.words;
+    let clock = state.clock;
+    let tombstone = state.tombstone;
+    let used = state.used;
+    let removed = next_tombstone(&words, tombstone, context);
+    let seen = clock_with_context(clock, context);
+    state_with(state, seen, removed, used)
+}
+
+// The answer of an own remove, for an output of so many bytes.
+fn remove_answer(state: State, store: &[u8], context: &[u8], room: usize) -> dots::Answer
+    ensures { λ r. ⌜ Answers room (ownRemoveRefusals state (now (store .entry)) (now (context .entry))) r ⌝ }
+{
+    let early = remove_early(state, store, context);
+    if dots::number_of(early) != 0 {
+        return early;
+    }
+    remove_late(state, context, room)
+}
+
+// Applies a context and writes the remove message.
+fn remove_done(state: State, context: &[u8], out: &mut [u8]) -> Outcome
+    requires { ⌜ MayRemove state (now context) (length (now out)) ⌝ }
+    ensures { λ r. ⌜ Removed state (now (context .entry)) (now (out .entry)) (now (out .exit)) r ⌝ }
+{
+    let name = state.name.bytes;
+    let written = put_remove(&name, state.name.len, context, out);
+    let next = removed_state(state, context);
+    Outcome {
+        answer: dots::Answer::Done,
+        state: next,
+        written: written,
+    }
+}
+
+// Removes a context. Writes the remove message.
+pub fn own_remove(state: State, store: &[u8], context: &[u8], out: &mut [u8]) -> Outcome
+    ensures { λ r. ⌜ Leaves (ownRemoveResult state (now (store .entry)) (now (context .entry)) (now (out .entry))) (now (store .entry)) (now (out .exit)) r ⌝ }
+{
+    let answer = remove_answer(state, store, context, out.len());
+    if dots::number_of(answer) != 0 {
+        return Outcome {
+            answer: answer,
+            state: state,
+            written: 0,
+        };
+    }
+    remove_done(state, context, out)
+}
+
+// ---- listing
+
+// Lists keys end to end: refusal 13, or their lines put out.
+fn list_keys(n: usize, keys: &[u8], tombstone: &[u8], out: &mut [u8]) -> Listed
+    requires { ⌜ (n ≤ 16) × (length (now keys) ≤ 65536) × (keysFit n (now keys) ≡ true) × (ascendingDots (dotsOf (now tombstone)) ≡ true) ⌝ }
+    ensures { λ r. ⌜ ListsLines (linesOfLive (dotsOf (now (tombstone .entry))) (entriesIn n (now (keys .entry)))) (now (out .entry)) (now (out .exit)) r ⌝ }
+{
+    let size = store::listing_size(n, keys, tombstone);
+    if out.len() < size.bytes {
+        return Listed {
+            answer: dots::Answer::OutputShort,
+            written: 0,
+            labels: 0,
+        };
+    }
+    store::write_listing(n, keys, tombstone, out);
+    Listed {
+        answer: dots::Answer::Done,
+        written: size.bytes,
+        labels: size.labels,
+    }
+}
+
+// Lists the used part of a store, with the first count dots of a tombstone.
+fn list_used(
+    n: usize,
+    store: &[u8],
+    used: usize,
+    tombstone: &[u8],
+    count: usize,
+    out: &mut [u8],
+) -> Listed
+    requires { ⌜ Readable n used count (now store) (now tombstone) ⌝ }
+    ensures { λ r. ⌜ ListsLines (linesIn n used count (now (store .entry)) (now (tombstone .entry))) (now (out .entry)) (now (out .exit)) r ⌝ }
+{
+    let size = count * 9;
+    list_keys(n, &store[..used], &tombstone[..size], out)
+}
+
+// Lists the labels.
+pub fn list(state: State, store: &[u8], out: &mut [u8]) -> Listed
+    ensures { λ r. ⌜ Lists (listResult state (now (store .entry)) (now (out .entry))) (now (out .exit)) r ⌝ }
+{
+    if damaged(state, store) {
+        return Listed {
+            answer: dots::Answer::Damaged,
+            written: 0,
+            labels: 0,
+        };
+    }
+    let tombstone = state.tombstone.bytes;
+    let n = state.name.len;
+    let used = state.used;
+    let count = state.tombstone.count;
+    list_used(n, store, used, &tombstone, count, out)
+}
+
+// ---- lookup
+
+// The stretch of a label's keys in the used part of a store, for a set whose name is the first len bytes.
+fn used_stretch<'a, 'b>(
+    store: &'a [u8],
+    used: usize,
+    name: &'b [u8],
+    len: usize,
+    label: &'b [u8],
+) -> &'a [u8]
+    requires { ⌜ (used ≤ length (now store)) × (len ≤ length (now name)) × (nameOk (take len (now name)) ≡ true) × (labelOk (now label) ≡ true) ⌝ }
+    ensures { λ r. ⌜ IsPart (store .entry) (stretchStart (take len (now (name .entry))) (now (label .entry)) (take used (now (store .entry)))) (stretchEnd (take len (now (name .entry))) (now (label .entry)) (take used (now (store .entry)))) r ⌝ }
+{
+    store::stretch(&store[..used], &name[..len], label)
+}
+
+// Whether some key's dot is not in the tombstone.
+fn any_listed(n: usize, keys: &[u8], tombstone: Tombstone) -> bool
+    requires { ⌜ (n ≤ 16) × (keysFit n (now keys) ≡ true) × (tombstone .count ≤ tombstoneMost) × (ascendingDots (dotsOf (take (tombstone .count * 9) (tombstone .bytes))) ≡ true) ⌝ }
+    ensures { λ r. ⌜ r ≡ any (λ (e : Entry). not (member compareDots (e .dot) (dotsOf (take (tombstone .count * 9) (tombstone .bytes))))) (entriesIn n (now (keys .entry))) ⌝ }
+{
+    let bytes = tombstone.bytes;
+    let size = tombstone.count * 9;
+    store::any_live(n, keys, &bytes[..size])
+}
+
+// The number of the first refusal of a lookup that holds, else 0.
+fn lookup_number(state: State, store: &[u8], label: &[u8]) -> u8
+    ensures { λ r. ⌜ r ≡ numberOf (firstOf (lookupRefusals state (now (store .entry)) (now (label .entry)))) ⌝ }
+{
+    let damage = damaged(state, store);
+    let labelled = dots::label_ok(label);
+    dots::number_of(early_answer(damage, !labelled, false, false, false))
+}
+
+// Looks a label up: hands back the stretch of the lent store that holds its keys.
+pub fn lookup<'a>(
+    state: State,
+    store: &'a [u8],
+    label: &[u8],
+    number: &mut u8,
+    listed: &mut bool,
+) -> &'a [u8]
+    ensures { λ r. ⌜ LooksUp state (store .entry) (now (label .entry)) (now (number .exit)) (now (listed .exit)) r ⌝ }
+{
+    let refusal = lookup_number(state, store, label);
+    *number = refusal;
+    *listed = false;
+    if refusal != 0 {
+        return &store[0..0];
+    }
+    let name = state.name.bytes;
+    let len = state.name.len;
+    let stretch = used_stretch(store, state.used, &name, len, label);
+    *listed = any_listed(len, stretch, state.tombstone);
+    stretch
+}
+
+// ---- compaction
+
+// Drops the dead keys of an undamaged state's store, and their dots from its tombstone. Returns the state left.
+fn compact_whole(state: State, store: &mut [u8]) -> State
+    requires { ⌜ (isDamaged state (now store) ≡ false) × (length (state .name .bytes) ≡ 16) × (length (state .tombstone .bytes) ≡ 1152) ⌝ }
+    ensures { λ r. ⌜ (r ≡ stateOf state (compacted clockModel (view state (now (store .entry))))) × (now (store .exit) ≡ storeOf state (now (store .entry)) (compacted clockModel (view state (now (store .entry))))) ⌝ }
+{
+    let clock = state.clock;
+    let mut bytes = state.tombstone.bytes;
+    let left = store::compact(
+        state.name.len,
+        store,
+        state.used,
+        &mut bytes,
+        state.tombstone.count,
+    );
+    let tombstone = Tombstone {
+        bytes: bytes,
+        count: left.count,
+    };
+    state_with(state, clock, tombstone, left.used)
+}
+
+// Drops the keys whose dots are in the tombstone.
+pub fn compact(state: State, store: &mut [u8]) -> Outcome
+    ensures { λ r. ⌜ Leaves (compactResult state (now (store .entry))) (now (store .exit)) [] r ⌝ }
+{
+    if damaged(state, store) {
+        return Outcome {
+            answer: dots::Answer::Damaged,
+            state: state,
+            written: 0,
+        };
+    }
+    let left = compact_whole(state, store);
+    Outcome {
+        answer: dots::Answer::Done,
+        state: left,
+        written: 0,
     }
 }

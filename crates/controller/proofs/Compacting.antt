@@ -1,0 +1,160 @@
+-- Compacting the store and the tombstone of an undamaged state writes back its machine's compaction. Assumes nothing.
+use Prim.Native.Nat.{ℕ, _-_, _*_, _≤_, max}
+use mathlib.Core.Path.{_≡_, refl, sym, ap, ap₂, subst, _∙_}
+use mathlib.Core.Bool.{true, false, not}
+use mathlib.Core.List.{[], _∷_, _++_, map, append-assoc}
+use native.Mathlib.Omega.{arith}
+use lib.Dec.{eqb}
+use lib.ListN.{length, take, drop, replicate, length-drop, take-append-drop}
+use borrow.Author.Tests.{leb-true, eqb-true}
+use Rattle.wire.specs.Lists.{all, member}
+use Rattle.wire.specs.Bytes.{Bytes}
+use Rattle.wire.proofs.Tests.{both, both-left, both-right}
+use Rattle.dots.specs.declared.Answer.the-variants.{Done, Damaged}
+use Rattle.dots.specs.declared.Dot.{Dot}
+use Rattle.dots.specs.Dots.{compareDots, ascendingDots}
+use Rattle.dots.specs.Wire.{dotsBytes}
+use Rattle.dots.proofs.Loops.{length-dotsAt}
+use Rattle.dots.proofs.Places.{dots-front}
+use Rattle.dots.proofs.RoundTrip.{length-dots}
+use Rattle.keys.specs.Entry.{entryKey}
+use Rattle.store.specs.declared.Compacted.{Compacted}
+use Rattle.store.specs.Cut.{storeBytes, keysOf}
+use Rattle.store.specs.Valid.{keysFit}
+use Rattle.store.specs.Compaction.{inPlaceOf, Compacts}
+use Rattle.store.proofs.RoundTrip.{keys-written}
+use Rattle.store.proofs.Pieces.{in-place-padded}
+use Rattle.store.proofs.Marks.{keep-shorter}
+use Rattle.store.proofs.CompactedEntries.{store-left, used-left, tombstone-left, count-left}
+use Rattle.replica.specs.Machine.{live, droppedDots, compacted, effect}
+use Rattle.controller.specs.declared.State.{State}
+use Rattle.controller.specs.State.{clockModel, Machine, nameOf, tombstoneDots, usedPart, entries, view}
+use Rattle.controller.specs.Damage.{zeroFrom, stateNameOk, tombstoneOk, damaged}
+use Rattle.controller.specs.Effect.{padded, tombstoneOf, keysPart, stateOf, storeOf}
+use Rattle.controller.specs.Tests.{stateWith}
+use Rattle.controller.specs.Calls.{refused, compactResult, compactDone}
+use Rattle.controller.specs.Promise.{Leaves}
+use Rattle.controller.proofs.Parts.{front-size}
+use Rattle.controller.proofs.Clauses.{Undamaged, undamaged, used-fits, entries-of}
+use Rattle.controller.proofs.Whole.{keep-size}
+
+-- ---- bytes that are 0
+
+zeros-are : (s : Bytes) → all (λ b. eqb b 0) s ≡ true → s ≡ replicate (length s) 0
+unfolding all
+zeros-are [] h = refl
+zeros-are (b ∷ s) h = ap₂ _∷_ (eqb-true b 0 (both-left (eqb b 0) (all (λ x. eqb x 0) s) h)) (zeros-are s (both-right (eqb b 0) (all (λ x. eqb x 0) s) h))
+
+-- bytes that are 0 past the first n
+pub padded-front : (n m : ℕ) (s : Bytes) → length s ≡ m → n ≤ m → zeroFrom n s ≡ true → s ≡ padded m (take n s)
+padded-front n m s size fits h =
+    let front : n ≡ length (take n s) = front-size s n (omega arith) in
+    let past : length (drop n s) ≡ m - length (take n s) = length-drop n s ∙ omega arith in
+    sym (take-append-drop n s) ∙ ap (λ (t : Bytes). take n s ++ t) (zeros-are (drop n s) h ∙ ap (λ (k : ℕ). replicate k 0) past)
+
+-- ---- an undamaged state compacted
+
+module _ (st : State) (store : Bytes) (h : damaged st store ≡ false) (named : length (st .name .bytes) ≡ 16) (size : length (st .tombstone .bytes) ≡ 1152) where
+  u : Undamaged st store
+  u = undamaged st store h
+
+  name-length : length (nameOf st) ≡ st .name .len
+  unfolding stateNameOk
+  name-length = let n = u .name in let short : st .name .len ≤ 16 = leb-true _ _ (search both) in sym (front-size (st .name .bytes) (st .name .len) (omega arith))
+
+  few : st .tombstone .count ≤ 128
+  unfolding tombstoneOk
+  few = let t = u .tombstone in leb-true _ _ (search both)
+
+  -- what the store's compaction requires
+  pub compact-may : (st .name .len ≤ 16) × (st .used ≤ length store) × (st .tombstone .count ≤ 128) × (length (st .tombstone .bytes) ≡ 1152)
+      × (keysFit (st .name .len) (take (st .used) store) ≡ true) × (ascendingDots (tombstoneDots st) ≡ true)
+  unfolding stateNameOk tombstoneOk
+  compact-may =
+      let n = u .name in
+      let t = u .tombstone in
+      (leb-true _ _ (search both), used-fits st store u, few, size, rw name-length at (entries-of st store u .fit), search both)
+
+  abbrev after : Machine
+  after = compacted clockModel (view st store)
+
+  keys : keysOf (length (nameOf st)) (usedPart st store) ≡ map (entryKey (nameOf st)) (entries st store)
+  keys = rw (entries-of st store u .written) at (keys-written (nameOf st) (entries st store) (entries-of st store u .valid))
+
+  fewer-bytes : length (keysPart st after) ≤ st .used
+  unfolding compacted view
+  fewer-bytes =
+      let kept = keep-size (nameOf st) (live clockModel (view st store)) (entries st store) in
+      let all : length (storeBytes (nameOf st) (entries st store)) ≡ st .used = ap length (entries-of st store u .written) ∙ sym (front-size store (st .used) (used-fits st store u)) in
+      omega arith
+
+  store-compacted : inPlaceOf (keysPart st after) (st .used) store ≡ storeOf st store after
+  unfolding storeOf
+  store-compacted =
+      let most : max (st .used) (length (keysPart st after)) ≡ st .used = omega (arith, fewer-bytes) in
+      sym (append-assoc (keysPart st after) (replicate (st .used - length (keysPart st after)) 0) (drop (st .used) store)) ∙ ap (λ (k : ℕ). padded (st .used) (keysPart st after) ++ drop k store) (sym most)
+
+  fewer-dots : length (dotsBytes (after .tombstone)) ≤ st .tombstone .count * 9
+  unfolding compacted view
+  fewer-dots =
+      let kept = keep-shorter (λ (d : Dot). not (member compareDots d (droppedDots clockModel (view st store)))) (tombstoneDots st) in
+      let all : length (tombstoneDots st) ≡ st .tombstone .count = ap length (dots-front (st .tombstone .bytes) (st .tombstone .count) (omega (arith, few))) ∙ length-dotsAt (st .tombstone .count) (st .tombstone .bytes) 0 in
+      omega (arith, length-dots (after .tombstone))
+
+  tombstone-compacted : inPlaceOf (dotsBytes (after .tombstone)) (st .tombstone .count * 9) (st .tombstone .bytes) ≡ padded 1152 (dotsBytes (after .tombstone))
+  unfolding tombstoneOk
+  tombstone-compacted =
+      let t = u .tombstone in
+      let front : Bytes = take (st .tombstone .count * 9) (st .tombstone .bytes) in
+      let room : st .tombstone .count * 9 ≤ 1152 = omega (arith, few) in
+      let zeros : st .tombstone .bytes ≡ padded 1152 (take (st .tombstone .count * 9) (st .tombstone .bytes)) = padded-front (st .tombstone .count * 9) 1152 (st .tombstone .bytes) size room (search both) in
+      ap (inPlaceOf (dotsBytes (after .tombstone)) (st .tombstone .count * 9)) zeros
+      ∙ in-place-padded (dotsBytes (after .tombstone)) front (st .tombstone .count * 9) 1152 (sym (front-size (st .tombstone .bytes) (st .tombstone .count * 9) (omega arith))) fewer-dots room
+
+  -- what it leaves
+  module _ (store′ tombstone′ : Bytes) (r : Compacted) (c : Compacts (st .name .len) (st .used) (st .tombstone .count) store (st .tombstone .bytes) store′ tombstone′ r) where
+    of-name : Compacts (length (nameOf st)) (st .used) (st .tombstone .count) store (st .tombstone .bytes) store′ tombstone′ r
+    of-name = subst (λ (n : ℕ). Compacts n (st .used) (st .tombstone .count) store (st .tombstone .bytes) store′ tombstone′ r) (sym name-length) c
+
+    pub compact-store : store′ ≡ storeOf st store after
+    unfolding compacted view
+    compact-store = store-left (nameOf st) (st .used) (st .tombstone .count) store (st .tombstone .bytes) store′ tombstone′ r of-name (entries st store) (entries-of st store u .valid) keys ∙ store-compacted
+
+    used-is : r .used ≡ length (keysPart st after)
+    unfolding compacted view
+    used-is = used-left (nameOf st) (st .used) (st .tombstone .count) store (st .tombstone .bytes) store′ tombstone′ r of-name (entries st store) (entries-of st store u .valid) keys
+
+    bytes-are : tombstone′ ≡ padded 1152 (dotsBytes (after .tombstone))
+    unfolding compacted view
+    bytes-are = tombstone-left (nameOf st) (st .used) (st .tombstone .count) store (st .tombstone .bytes) store′ tombstone′ r of-name (entries st store) (entries-of st store u .valid) keys ∙ tombstone-compacted
+
+    count-is : r .count ≡ length (after .tombstone)
+    unfolding compacted view
+    count-is = count-left (nameOf st) (st .used) (st .tombstone .count) store (st .tombstone .bytes) store′ tombstone′ r of-name (entries st store) (entries-of st store u .valid) keys
+
+    pub compact-state : (left : State) → left ≡ stateWith st (st .clock .words) (record { bytes = tombstone′; count = r .count }) (r .used) → left ≡ stateOf st after
+    unfolding stateOf compacted view
+    compact-state left e =
+        let same : stateWith st (st .clock .words) (record { bytes = tombstone′; count = r .count }) (r .used) ≡ stateWith st (st .clock .words) (tombstoneOf (after .tombstone)) (length (keysPart st after)) =
+        λ i. stateWith st (st .clock .words) (record { bytes = bytes-are i; count = count-is i }) (used-is i) in
+        e ∙ same
+
+-- ---- the call
+
+module _ (st : State) (store : Bytes) where
+  result-refused : damaged st store ≡ true → compactResult st store ≡ refused st store [] Damaged
+  unfolding compactResult
+  result-refused h = rw h
+
+  result-done : damaged st store ≡ false → compactResult st store ≡ compactDone st store
+  unfolding compactResult
+  result-done h = rw h
+
+  pub compact-refused : damaged st store ≡ true → Leaves (compactResult st store) store [] (record { answer = Damaged; state = st; written = 0 })
+  compact-refused h = rw (result-refused h) (record { answered = refl; state-is = refl; written-is = refl; store-is = refl; out-is = refl })
+
+  pub compact-done : (left : State) (store′ : Bytes) → damaged st store ≡ false
+      → left ≡ stateOf st (compacted clockModel (view st store)) → store′ ≡ storeOf st store (compacted clockModel (view st store))
+      → Leaves (compactResult st store) store′ [] (record { answer = Done; state = left; written = 0 })
+  unfolding effect
+  compact-done left store′ h e f = rw (result-done h) (record { answered = refl; state-is = e; written-is = refl; store-is = f; out-is = refl })

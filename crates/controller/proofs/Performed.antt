@@ -1,0 +1,85 @@
+-- What a call leaves that applies a context: the state and the store that the machine's effect is written back as. Assumes nothing.
+use Prim.Native.Nat.{ℕ, _-_, _*_, _≤_, max}
+use mathlib.Core.Path.{_≡_, refl, sym, ap, _∙_}
+use mathlib.Core.Bool.{true, not}
+use mathlib.Core.List.{List, [], _∷_, _++_, append-nil}
+use native.Mathlib.Omega.{arith}
+use lib.Dec.{eqb}
+use lib.ListN.{length, take, drop, replicate, getD, take-append-drop, length-drop}
+use lib.Seq.{length-take-le}
+use mir.Val.{Fits}
+use mir.Syntax.{w8}
+use borrow.Author.Tests.{eqb-true}
+use Rattle.wire.specs.Lists.{all, keep, insertAll}
+use Rattle.wire.specs.Bytes.{Bytes}
+use Rattle.wire.proofs.Tests.{both-left, both-right, pass}
+use Rattle.wire.proofs.Lists.{keep-member, member-keep}
+use Rattle.wire.proofs.Fields.{bytes-take}
+use Rattle.dots.specs.Dots.{Context, compareDots, dotOk, ascendingDots}
+use Rattle.dots.specs.Wire.{dotsBytes, dotsOf}
+use Rattle.dots.proofs.RoundTrip.{dots-read}
+use Rattle.clock.specs.Row.{windowWidth}
+use Rattle.clock.specs.Clock.{sees, joinAll, near}
+use Rattle.store.specs.Cut.{storeBytes}
+use Rattle.replica.specs.Machine.{ownRemove, apply, effect}
+use Rattle.controller.specs.declared.State.{State}
+use Rattle.controller.specs.State.{clockModel, nameOf, tombstoneDots, entries, view}
+use Rattle.controller.specs.Damage.{zeroFrom}
+use Rattle.controller.specs.Effect.{tombstoneOf, stateOf, storeOf}
+use Rattle.controller.specs.Tests.{Padded, stateWith}
+use Rattle.controller.proofs.Validity.{all-kept}
+use Rattle.controller.proofs.Clauses.{Undamaged, used-fits, entries-of}
+use Rattle.controller.proofs.Whole.{view-whole}
+use Rattle.controller.proofs.Joining.{joined-same}
+
+-- ---- the tombstone's bytes
+
+zeros-are : (s : List ℕ) → all (λ b. eqb b 0) s ≡ true → s ≡ replicate (length s) 0
+unfolding all
+zeros-are [] h = refl
+zeros-are (b ∷ s) h =
+    let zero : b ≡ 0 = eqb-true b 0 (both-left (eqb b 0) (all (λ b. eqb b 0) s) h) in
+    rw zero (ap (λ (t : List ℕ). 0 ∷ t) (zeros-are s (both-right (eqb b 0) (all (λ b. eqb b 0) s) h)))
+
+pub tombstone-padded : (bytes : List ℕ) (count : ℕ) → ((j : ℕ) → Fits w8 (getD bytes j 0)) → length bytes ≡ 1152 → count ≤ 128
+    → ascendingDots (dotsOf (take (count * 9) bytes)) ≡ true → zeroFrom (count * 9) bytes ≡ true → Padded bytes count
+tombstone-padded bytes count small size few up past =
+    let front : length (take (count * 9) bytes) ≡ count * 9 = length-take-le (count * 9) bytes (omega arith) in
+    let read : dotsBytes (dotsOf (take (count * 9) bytes)) ≡ take (count * 9) bytes = dots-read (take (count * 9) bytes) (bytes-take bytes (count * 9) (λ j. small j .fits)) (omega arith) in
+    let left : length (drop (count * 9) bytes) ≡ 1152 - length (take (count * 9) bytes) = rw (length-drop, front, size) in
+    record {
+      tomb = record { size = size; few = few; ascends = up };
+      zeros = sym (take-append-drop (count * 9) bytes) ∙ rw read (ap (λ (t : List ℕ). take (count * 9) bytes ++ t) (zeros-are (drop (count * 9) bytes) past ∙ rw left));
+    }
+
+-- ---- the clock and the store
+
+module _ (st : State) (store : Bytes) (u : Undamaged st store) (size : length (st .clock .words) ≡ 32) where
+  -- the entries' keys are the used part
+  pub keys-used : storeBytes (nameOf st) (entries st store) ≡ take (st .used) store
+  keys-used = entries-of st store u .written
+
+  used-size : length (take (st .used) store) ≡ st .used
+  used-size = length-take-le (st .used) store (used-fits st store u)
+
+  module _ (ds : Context) (ok : all dotOk ds ≡ true) (close : near windowWidth (st .clock .words) ds ≡ true) where
+    -- the dots seen before change nothing
+    context-joined : joinAll windowWidth (st .clock .words) ds ≡ joinAll windowWidth (st .clock .words) (keep (λ d. not (sees (st .clock .words) d)) ds)
+    unfolding view
+    context-joined =
+        joined-same (st .clock .words) ds (keep (λ d. not (sees (st .clock .words) d)) ds) (view-whole st store u size .formed) ok
+        (all-kept dotOk (λ d. not (sees (st .clock .words) d)) ds ok) close
+        (λ d f k. member-keep (λ d. not (sees (st .clock .words) d)) ds k (pass (ap not f)))
+        (λ d f k. keep-member (λ d. not (sees (st .clock .words) d)) ds k .0)
+
+    pub removed-state : stateWith st (joinAll windowWidth (st .clock .words) ds) (tombstoneOf (insertAll compareDots (keep (sees (st .clock .words)) ds) (tombstoneDots st))) (st .used)
+        ≡ stateOf st (effect clockModel (view st store) (ownRemove ds))
+    unfolding stateOf effect apply view insertAll
+    removed-state = rw (keys-used, used-size, context-joined)
+
+    pub removed-store : storeOf st store (effect clockModel (view st store) (ownRemove ds)) ≡ store
+    unfolding storeOf effect apply view insertAll
+    removed-store =
+        let none : st .used - st .used ≡ 0 = omega arith in
+        let same : max (st .used) (st .used) ≡ st .used = omega arith in
+        rw (keys-used, used-size, none, same, append-nil) (take-append-drop (st .used) store)
