@@ -308,7 +308,12 @@ fn late_answer(far: bool, tombstone: bool, store: bool, output: bool) -> dots::A
 // ---- applying a context
 
 // Puts a dot that was seen into the tombstone, once. Returns how many dots it then has.
-fn tombstone_with_dot(words: &[u64; 32], bytes: &mut [u8; 1152], count: usize, dot: dots::Dot) -> usize
+fn tombstone_with_dot(
+    words: &[u64; 32],
+    bytes: &mut [u8; 1152],
+    count: usize,
+    dot: dots::Dot,
+) -> usize
     requires { ⌜ Padded (now bytes) count × (dotOk dot ≡ true) × (length (cond (sees (now words) dot) (insert compareDots dot (dotsOf (take (count * 9) (now bytes)))) (dotsOf (take (count * 9) (now bytes)))) ≤ 128) ⌝ }
     ensures { λ r. ⌜ Padded (now (bytes .exit)) r × (dotsOf (take (r * 9) (now (bytes .exit))) ≡ cond (sees (now (words .entry)) dot) (insert compareDots dot (dotsOf (take (count * 9) (now (bytes .entry))))) (dotsOf (take (count * 9) (now (bytes .entry))))) ⌝ }
 {
@@ -319,7 +324,12 @@ fn tombstone_with_dot(words: &[u64; 32], bytes: &mut [u8; 1152], count: usize, d
 }
 
 // Puts the dots of a context that were seen into the tombstone. Returns how many dots it then has.
-fn tombstone_with_context(words: &[u64; 32], bytes: &mut [u8; 1152], count: usize, context: &[u8]) -> usize
+fn tombstone_with_context(
+    words: &[u64; 32],
+    bytes: &mut [u8; 1152],
+    count: usize,
+    context: &[u8],
+) -> usize
     requires { ⌜ Padded (now bytes) count × ContextFits (now context) × (length (insertAll compareDots (keep (sees (now words)) (dotsOf (now context))) (dotsOf (take (count * 9) (now bytes)))) ≤ 128) ⌝ }
     ensures { λ r. ⌜ Padded (now (bytes .exit)) r × (dotsOf (take (r * 9) (now (bytes .exit))) ≡ insertAll compareDots (keep (sees (now (words .entry))) (dotsOf (now (context .entry)))) (dotsOf (take (count * 9) (now (bytes .entry))))) ⌝ }
 {
@@ -383,7 +393,14 @@ fn state_with(state: State, clock: Clock, tombstone: Tombstone, used: usize) -> 
 }
 
 // Puts the key of an entry in its place, for a set whose name is the first len bytes.
-fn put_entry(store: &mut [u8], used: usize, name: &[u8], len: usize, label: &[u8], dot: dots::Dot) -> usize
+fn put_entry(
+    store: &mut [u8],
+    used: usize,
+    name: &[u8],
+    len: usize,
+    label: &[u8],
+    dot: dots::Dot,
+) -> usize
     requires { ⌜ (len ≤ length (now name)) × (nameOk (take len (now name)) ≡ true) × (labelOk (now label) ≡ true) × (used + (len + length (now label) + 15) ≤ length (now store)) ⌝ }
     ensures { λ r. ⌜ (r ≡ used + (len + length (now (label .entry)) + 15)) × (now (store .exit) ≡ insertedEntry (take len (now (name .entry))) (now (store .entry)) used (entry (now (label .entry)) dot)) ⌝ }
 {
@@ -391,7 +408,14 @@ fn put_entry(store: &mut [u8], used: usize, name: &[u8], len: usize, label: &[u8
 }
 
 // Writes the add message of a set whose name is the first len bytes.
-fn put_add(name: &[u8], len: usize, label: &[u8], dot: dots::Dot, context: &[u8], out: &mut [u8]) -> usize
+fn put_add(
+    name: &[u8],
+    len: usize,
+    label: &[u8],
+    dot: dots::Dot,
+    context: &[u8],
+    out: &mut [u8],
+) -> usize
     requires { ⌜ (len ≤ 16) × (len ≤ length (now name)) × (length (now label) ≤ 32) × WholeContext (now context) × (len + length (now label) + length (now context) + 18 ≤ length (now out)) ⌝ }
     ensures { λ r. ⌜ Wrote (take len (now (name .entry))) (add (now (label .entry)) dot (dotsOf (now (context .entry)))) (now (out .entry)) (now (out .exit)) r ⌝ }
 {
@@ -480,7 +504,12 @@ fn remove_late(state: State, context: &[u8], room: usize) -> dots::Answer
     let bytes = state.tombstone.bytes;
     let close = clock::near_context(&words, context);
     let full = tombstone_full(&words, &bytes, state.tombstone.count, context);
-    late_answer(!close, full, false, room < state.name.len + context.len() + 8)
+    late_answer(
+        !close,
+        full,
+        false,
+        room < state.name.len + context.len() + 8,
+    )
 }
 
 // The state with a context applied.

@@ -37,7 +37,7 @@ loop-less : tie.Need-loop-less Inv-loop μ-loop
 loop-less c = search needs
 
 loop-again : tie.Need-loop-again Inv-loop μ-loop
-loop-again c = 
+loop-again c =
     let t = c .before .before .before in
     let a = t .before .before .args in
     (omega arith, any-turn (aheadOf (a .own) (a .base)) (a .offered .now) (t .loop .i) _ (t .loop .found) (t .loop .inv .1) _ _ (c .before .before .loop-test .taken) (c .before .dot-at .ensures) (c .dot-ahead .ensures))

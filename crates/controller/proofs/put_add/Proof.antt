@@ -8,7 +8,7 @@ slice-aggregate-write-add : tie.Need-slice-aggregate-write-add
 slice-aggregate-write-add c = let s = c .before .before .before .before .before in front-size (s .args .name .now) (s .args .len) (s .pre .1)
 
 write-add-requires : tie.Need-write-add-requires
-write-add-requires c κs = 
+write-add-requires c κs =
     let s = c .before .before .before .before .before .before in
     let size = front-size (s .args .name .now) (s .args .len) (s .pre .1) in
     rw (← size) (s .pre .0, s .pre .2, s .pre .3, s .pre .4)

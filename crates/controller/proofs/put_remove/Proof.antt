@@ -8,7 +8,7 @@ slice-aggregate-write-remove : tie.Need-slice-aggregate-write-remove
 slice-aggregate-write-remove c = let s = c .before .before .before .before in front-size (s .args .name .now) (s .args .len) (s .pre .1)
 
 write-remove-requires : tie.Need-write-remove-requires
-write-remove-requires c κs = 
+write-remove-requires c κs =
     let s = c .before .before .before .before .before in
     let size = front-size (s .args .name .now) (s .args .len) (s .pre .1) in
     rw (← size) (s .pre .0, s .pre .2, s .pre .3)

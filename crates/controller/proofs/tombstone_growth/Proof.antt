@@ -43,13 +43,13 @@ loop-less : tie.Need-loop-less Inv-loop μ-loop
 loop-less c = omega arith
 
 loop-again : tie.Need-loop-again Inv-loop μ-loop
-loop-again c = 
+loop-again c =
     let t = c .before .before .before .before in
     let a = t .before .before .before .args in
     (omega arith, (omega arith, count-turn (joinsTombstone (a .words .now) (dotsOf (a .tombstone .now))) (a .context .now) (t .loop .i) _ (t .loop .grown) (t .loop .inv .1 .1) _ _ _ (c .before .before .before .loop-test .taken) (c .before .before .dot-at .ensures) (c .before .joins-tombstone .ensures) (c .one-if .ensures .0)))
 
 returns : tie.Need-returns Inv-loop μ-loop
-returns c = 
+returns c =
     let t = c .before in
     let a = t .before .before .before .args in
     (count-end (joinsTombstone (a .words .now) (dotsOf (a .tombstone .now))) (a .context .now) (t .loop .i) _ (t .loop .grown) (t .loop .inv .1 .1) (c .loop-test .left), omega arith)

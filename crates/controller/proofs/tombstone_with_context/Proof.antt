@@ -17,14 +17,14 @@ use Rattle.controller.proofs.tombstone_with_context.Statement.{statemen
 use Rattle.controller.proofs.tombstone_with_context.Tie as tie
 
 abbrev Inv-loop : tie.InvT-loop
-Inv-loop words bytes₀ count context n held₀ i₀ bytes held i = 
+Inv-loop words bytes₀ count context n held₀ i₀ bytes held i =
     (i ≤ n) × (Padded bytes held × (insertAll compareDots (keep (sees words) (left context i)) (dotsOf (take (held * 9) bytes)) ≡ insertAll compareDots (keep (sees words) (dotsOf context)) (dotsOf (take (held₀ * 9) bytes₀))))
 
 abbrev μ-loop : tie.MeasureT-loop
 μ-loop words bytes₀ count context n held₀ i₀ bytes held i = n - i
 
 loop-holds : tie.Need-loop-holds Inv-loop μ-loop
-loop-holds c = 
+loop-holds c =
     let start = c .before in
     let a = start .args in
     (omega arith, (start .pre .0, ap (λ (ds : List Dot). insertAll compareDots (keep (sees (a .words .now)) ds) (dotsOf (take (a .count * 9) (a .bytes .now)))) (dots-start (a .context .now))))

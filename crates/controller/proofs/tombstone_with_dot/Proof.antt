@@ -20,12 +20,12 @@ sees-requires : tie.Need-sees-requires
 sees-requires c κs = search needs
 
 insert-dot-requires : tie.Need-insert-dot-requires
-insert-dot-requires c κs = 
+insert-dot-requires c κs =
     let start = c .before .before .before in
     (start .pre .0 .tomb .size, start .pre .0 .tomb .few, start .pre .0 .tomb .ascends, start .pre .1, room start (sym (c .before .before .sees .ensures) ∙ c .before .if1 .taken))
 
 returns : tie.Need-returns
-returns c = 
+returns c =
     let start = c .before .before .before .before in
     let a = start .args in
     let known = sym (c .before .before .before .sees .ensures) ∙ c .before .before .if1 .taken in
@@ -33,7 +33,7 @@ returns c =
     (w .0, w .1 ∙ sym (ap (λ (b : Bool). cond b (insert compareDots (a .dot) (dotsOf (take (a .count * 9) (a .bytes .now)))) (dotsOf (take (a .count * 9) (a .bytes .now)))) known))
 
 returns-2 : tie.Need-returns-2
-returns-2 c = 
+returns-2 c =
     let start = c .before .before in
     let a = start .args in
     let known = sym (c .before .sees .ensures) ∙ c .if1 .left in
