@@ -2,7 +2,7 @@
 -- Clauses: what undamaged says. Guard, Applied, Accepted, TakenIn: what a call's acceptance says. Instance: the calls as a controller of the machine.
 -- Sequences: calls in a row. Demand3: demand 3. OwnRow, Whole, Undamaged: an accepted call leaves an undamaged state. Cases: document 01's cases.
 -- Parts, DotLoops, Joining, DamageTest, TombstoneBytes: laws for the functions of the crate.
--- Performed, OwnRemove: own remove. ReadCalls: listing and lookup. Compacting: compaction.
+-- Performed, Answers, Adds: calls that apply a context. OwnAdd, OwnRemove, TakeIn: these calls. ReadCalls: listing and lookup. Compacting: compaction.
 pub mod Validity
 pub mod Decided
 pub mod Reading
@@ -24,6 +24,10 @@ pub mod Joining
 pub mod DamageTest
 pub mod TombstoneBytes
 pub mod Performed
+pub mod Answers
 pub mod OwnRemove
+pub mod Adds
+pub mod OwnAdd
+pub mod TakeIn
 pub mod ReadCalls
 pub mod Compacting

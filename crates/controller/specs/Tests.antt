@@ -1,29 +1,36 @@
 -- The tests that the code of the calls makes, as it groups them.
 use Prim.Native.Nat.{ℕ, _+_, _*_, _%_, _≤_}
-use mathlib.Core.Bool.{Bool, true, not, _&&_}
+use mathlib.Core.Bool.{Bool, true, false, cond, not, _&&_, _||_}
 use mathlib.Core.List.{List, [], _∷_}
 use mathlib.Core.Path.{_≡_}
-use lib.Dec.{isEq, leb}
+use lib.Dec.{isEq, leb, eqb, ltb}
 use lib.ListN.{length, take}
-use Rattle.wire.specs.Lists.{keep, member, insertAll}
-use Rattle.wire.specs.Bytes.{Bytes}
-use Rattle.dots.specs.Answer.{Refusals, firstOf}
+use Rattle.wire.specs.Lists.{any, keep, member, insertAll}
+use Rattle.wire.specs.Bytes.{Bytes, compareBytes}
+use Rattle.dots.specs.Answer.{numberOf, Refusals, firstOf}
 use Rattle.dots.specs.declared.Answer.{Answer}
-use Rattle.dots.specs.declared.Answer.the-variants.{Done, Damaged, BadName, BadDot, OwnAhead, CounterEnd, TooFar, TombstoneFull, StoreFull, OutputShort}
+use Rattle.dots.specs.declared.Answer.the-variants.{Done, Damaged, BadName, BadDot, OtherSet, OwnAhead, CounterEnd, TooFar, TombstoneFull, StoreFull, OutputShort}
 use Rattle.dots.specs.Wire.{dotsBytes, dotsOf}
 use Rattle.dots.specs.declared.Actor.{Actor}
 use Rattle.dots.specs.declared.Dot.{Dot}
-use Rattle.dots.specs.Dots.{actorOk, compareActors, compareDots, ascendingDots, contextMost}
+use Rattle.dots.specs.Names.{Name, Label, labelOk}
+use Rattle.dots.specs.Dots.{Context, actorOk, dotOf, dotOk, maxCounter, compareActors, compareDots, ascendingDots, contextMost}
 use Rattle.clock.specs.Row.{windowWidth}
-use Rattle.clock.specs.Clock.{sees, clockOk, joinAll, near}
-use Rattle.dots.specs.Message.{remove}
+use Rattle.clock.specs.Clock.{sees, rowAt, clockOk, joinAll, near}
+use Rattle.dots.specs.Message.{Message, add, remove}
+use Rattle.messages.specs.declared.MessageRead.{MessageRead}
+use Rattle.messages.specs.Read.{nameOf as messageName, messageOf}
+use Rattle.messages.proofs.Accepted.{Found}
+use Rattle.replica.specs.Machine.{apply, ifUnseen}
+use Rattle.store.specs.Valid.{storeMost}
 use Rattle.messages.specs.Write.{Wrote}
 use Rattle.controller.specs.declared.State.{State}
 use Rattle.controller.specs.declared.Tombstone.{Tombstone}
 use Rattle.controller.specs.declared.Outcome.{Outcome}
-use Rattle.controller.specs.State.{nameOf, tombstoneDots}
-use Rattle.controller.specs.Damage.{stateNameOk, tombstoneMost, tombstoneOk}
-use Rattle.controller.specs.Effect.{padded, tombstoneOf}
+use Rattle.controller.specs.State.{clockModel, Machine, nameOf, tombstoneDots, view}
+use Rattle.controller.specs.Damage.{stateNameOk, tombstoneMost, tombstoneOk, damaged}
+use Rattle.controller.specs.Effect.{padded, tombstoneOf, stateOf, storeOf}
+use Rattle.controller.specs.Refusals.{badLabel, badContext, hasDot, ownAhead}
 
 -- what is undamaged whatever the store is
 unfoldable pub stateOk : State → Bool
@@ -36,6 +43,13 @@ aheadOf own base d = isEq (compareActors (d .actor) own) && not (leb (d .counter
 -- a dot that was seen and is not in the tombstone
 abbrev pub joinsTombstone : List ℕ → List Dot → Dot → Bool
 joinsTombstone words tombstone d = sees words d && not (member compareDots d tombstone)
+
+-- the dot that an own add takes, and the tombstone with the dots of a context that were seen
+abbrev pub ownNext : State → Dot
+ownNext st = dotOf (st .actor) (rowAt (st .clock .words) (st .actor .number) .base + 1)
+
+abbrev pub nextTombstone : State → Context → List Dot
+nextTombstone st context = insertAll compareDots (keep (sees (st .clock .words)) context) (tombstoneDots st)
 
 -- what the code counts on: the tombstone of an undamaged state, and a context
 pub record Tombstoned (bytes : Bytes) (count : ℕ) : Type 0 where
@@ -60,6 +74,35 @@ earlyRefusals damage name dot ahead end = (damage, Damaged) ∷ (name, BadName) 
 abbrev pub lateRefusals : Bool → Bool → Bool → Bool → Refusals
 lateRefusals far tombstone store output = (far, TooFar) ∷ (tombstone, TombstoneFull) ∷ (store, StoreFull) ∷ (output, OutputShort) ∷ []
 
+-- the refusals of an own add that are tested on any arguments
+abbrev pub addEarly : State → Bytes → Bytes → Bytes → Refusals
+addEarly st store label context =
+    earlyRefusals (damaged st store) (badLabel label) (badContext context || hasDot (ownNext st) (dotsOf context)) (ownAhead st store (dotsOf context))
+    (eqb (rowAt (st .clock .words) (st .actor .number) .base) maxCounter)
+
+-- the later ones of an add and of a remove, own or taken in, for a store of so many bytes; short says whether the output is shorter than the message
+abbrev pub addLate : State → ℕ → Label → Dot → Context → Bool → Refusals
+addLate st size label d context short =
+    lateRefusals (not (near windowWidth (st .clock .words) (d ∷ context)))
+    (ltb tombstoneMost (length (nextTombstone st context)))
+    (not (sees (st .clock .words) d) && ltb size (st .used + (st .name .len + length label + 15))) short
+
+abbrev pub removeLate : State → Context → Bool → Refusals
+removeLate st context short =
+    lateRefusals (not (near windowWidth (st .clock .words) context)) (ltb tombstoneMost (length (nextTombstone st context))) false short
+
+-- those of taking in from the set name on
+abbrev pub takenLate : State → ℕ → Name → Message → Refusals
+takenLate st size name (add label d context) =
+    (not (isEq (compareBytes name (nameOf st))), OtherSet) ∷ (any (aheadOf (st .actor) (rowAt (st .clock .words) (st .actor .number) .base)) (d ∷ context), OwnAhead)
+    ∷ addLate st size label d context false
+takenLate st size name (remove context) =
+    (not (isEq (compareBytes name (nameOf st))), OtherSet) ∷ (any (aheadOf (st .actor) (rowAt (st .clock .words) (st .actor .number) .base)) context, OwnAhead)
+    ∷ removeLate st context false
+
+abbrev pub takenAnswer : Bool → Bool → Answer → Answer
+takenAnswer other ahead late = cond other OtherSet (cond ahead OwnAhead late)
+
 -- the answer of a call whose output has so many bytes
 abbrev pub Answers : ℕ → (Bytes → Refusals) → Answer → Type 0
 Answers room refusals r = (out : Bytes) → length out ≡ room → r ≡ firstOf (refusals out)
@@ -67,6 +110,62 @@ Answers room refusals r = (out : Bytes) → length out ≡ room → r ≡ firstO
 -- a state with another clock, tombstone and used length
 abbrev pub stateWith : State → List ℕ → Tombstone → ℕ → State
 stateWith st words tombstone used = record { actor = st .actor; name = st .name; clock = record { words = words }; tombstone = tombstone; used = used }
+
+-- ---- adds
+
+-- what the later refusals of an add count on
+pub record MayOffer (st : State) (label context : Bytes) (d : Dot) : Type 0 where
+  pub state-ok : stateOk st ≡ true
+  pub small : st .used ≤ storeMost
+  pub labelled : labelOk label ≡ true
+  pub fits : ContextFits context
+  pub dot-ok : dotOk d ≡ true
+  pub new : member compareDots d (dotsOf context) ≡ false
+
+-- what joining a context and one more dot counts on
+pub record MayJoin (st : State) (context : Bytes) (d : Dot) : Type 0 where
+  pub state-ok : stateOk st ≡ true
+  pub fits : ContextFits context
+  pub dot-ok : dotOk d ≡ true
+  pub new : member compareDots d (dotsOf context) ≡ false
+  pub close : near windowWidth (st .clock .words) (d ∷ dotsOf context) ≡ true
+  pub few : length (nextTombstone st (dotsOf context)) ≤ tombstoneMost
+
+-- what applying an add counts on
+pub record MayApply (st : State) (store label context : Bytes) (d : Dot) : Type 0 where
+  pub whole : damaged st store ≡ false
+  pub joins : MayJoin st context d
+  pub labelled : labelOk label ≡ true
+  pub room-for : sees (st .clock .words) d ≡ false → st .used + (st .name .len + length label + 15) ≤ length store
+  pub name-size : length (st .name .bytes) ≡ 16
+  pub words-size : length (st .clock .words) ≡ 32
+
+-- the machine's state after it
+abbrev pub applied : State → Bytes → Label → Context → Dot → Machine
+applied st store label context d = apply clockModel (view st store) (ifUnseen clockModel (view st store) label d) context
+
+-- what an own add counts on where it is not refused, for an output of so many bytes
+pub record MayAdd (st : State) (store label context : Bytes) (room : ℕ) : Type 0 where
+  pub next : rowAt (st .clock .words) (st .actor .number) .base + 1 ≤ maxCounter
+  pub applies : MayApply st store label context (ownNext st)
+  pub room-for : st .name .len + length label + length context + 18 ≤ room
+
+-- what it leaves
+pub record Added (st : State) (store label context out store′ out′ : Bytes) (r : Outcome) : Type 0 where
+  pub answered : r .answer ≡ Done
+  pub state-is : r .state ≡ stateOf st (applied st store label (dotsOf context) (ownNext st))
+  pub store-is : store′ ≡ storeOf st store (applied st store label (dotsOf context) (ownNext st))
+  pub wrote : Wrote (nameOf st) (add label (ownNext st) (dotsOf context)) out out′ (r .written)
+
+-- what taking in counts on where it is not refused
+pub record MayTakeIn (st : State) (store message : Bytes) (read : MessageRead) : Type 0 where
+  pub whole : damaged st store ≡ false
+  pub found : Found message read
+  pub passed : numberOf (firstOf (takenLate st (length store) (messageName message) (messageOf message))) ≡ 0
+  pub name-size : length (st .name .bytes) ≡ 16
+  pub words-size : length (st .clock .words) ≡ 32
+
+-- ---- removes
 
 -- what an own remove counts on where it is not refused, for an output of so many bytes
 pub record MayRemove (st : State) (context : Bytes) (room : ℕ) : Type 0 where

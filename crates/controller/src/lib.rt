@@ -3,12 +3,12 @@ ghost use mathlib.Core.Path.{_≡_};
 ghost use mathlib.Core.Bool.{true, cond, _&&_, not, false};
 ghost use mathlib.Core.List.{[], _∷_};
 ghost use Prim.Native.Nat.{_+_, _*_, _≤_};
-ghost use lib.Dec.{eqb, leb, ltb};
+ghost use lib.Dec.{eqb, leb, ltb, isEq};
 ghost use lib.ListN.{length, take};
 ghost use Rattle.wire.specs.Lists.{all, any, keep, member, insert, insertAll};
 ghost use Rattle.dots.specs.Answer.{firstOf, numberOf};
 ghost use Rattle.dots.specs.Names.{nameMost, nameOk, labelOk};
-ghost use Rattle.dots.specs.Dots.{dotOf, dotOk, compareDots, ascendingDots};
+ghost use Rattle.dots.specs.Dots.{maxCounter, dotOf, dotOk, compareDots, ascendingDots};
 ghost use Rattle.dots.specs.Wire.{dotsOf};
 ghost use Rattle.clock.specs.Clock.{sees, rowAt, joinAll, near};
 ghost use Rattle.clock.specs.Row.{windowWidth};
@@ -17,19 +17,21 @@ ghost use Rattle.dots.specs.Entries.{entry, Entry};
 ghost use Rattle.dots.specs.Message.{add, remove};
 ghost use Rattle.messages.specs.Write.{WholeContext, Wrote};
 ghost use Rattle.store.specs.Place.{insertedEntry, stretchStart, stretchEnd};
-ghost use Rattle.store.specs.Valid.{storeOk, keysFit};
+ghost use Rattle.store.specs.Valid.{storeMost, storeOk, keysFit};
 ghost use Rattle.controller.specs.Damage.{zeroFrom, tombstoneMost, damaged as isDamaged};
 ghost use Rattle.controller.specs.State.{clockModel, view, tombstoneDots};
-ghost use Rattle.controller.specs.Tests.{stateOk, stateWith, aheadOf, joinsTombstone, Tombstoned, Padded, ContextFits, earlyRefusals, lateRefusals, Answers, MayRemove, Removed};
+ghost use Rattle.controller.specs.Tests.{stateOk, stateWith, aheadOf, joinsTombstone, Tombstoned, Padded, ContextFits, earlyRefusals, lateRefusals, addEarly, addLate, removeLate, takenLate, takenAnswer, Answers, MayOffer, MayJoin, MayApply, applied, MayAdd, Added, MayTakeIn, MayRemove, Removed};
+ghost use Rattle.messages.specs.Read.{nameOf as messageName, messageOf, readOf};
+ghost use Rattle.messages.proofs.Accepted.{Found};
 ghost use Rattle.controller.specs.Refusals.{badContext, ownAhead};
 ghost use Rattle.controller.specs.Effect.{padded, tombstoneOf, stateOf, storeOf};
-ghost use Rattle.controller.specs.Calls.{freshState, setUp, ownRemoveResult, listResult, compactResult, lookupRefusals, ownRemoveRefusals};
+ghost use Rattle.controller.specs.Calls.{freshState, setUp, ownAddResult, ownRemoveResult, takeInResult, listResult, compactResult, lookupRefusals, ownAddRefusals, ownRemoveRefusals, takeInRefusals};
 ghost use Rattle.controller.specs.Promise.{Leaves, Lists, LooksUp};
-ghost use Rattle.wire.specs.Bytes.{IsPart};
+ghost use Rattle.wire.specs.Bytes.{IsPart, compareBytes};
 ghost use Rattle.store.specs.Cut.{entriesIn};
 ghost use Rattle.store.specs.Listing.{linesOfLive};
 ghost use Rattle.controller.specs.Reads.{Readable, linesIn, ListsLines};
-ghost use Rattle.replica.specs.Machine.{compacted};
+ghost use Rattle.replica.specs.Machine.{effect, takeIn, compacted};
 
 // A set name: its first len bytes; the others are 0.
 pub struct SetName {
@@ -305,6 +307,39 @@ fn late_answer(far: bool, tombstone: bool, store: bool, output: bool) -> dots::A
     )
 }
 
+// The refusals 10, 11 and 13 of a remove; short says whether the output is shorter than its message.
+fn remove_late(state: State, context: &[u8], short: bool) -> dots::Answer
+    requires { ⌜ (stateOk state ≡ true) × ContextFits (now context) ⌝ }
+    ensures { λ r. ⌜ r ≡ firstOf (removeLate state (dotsOf (now (context .entry))) short) ⌝ }
+{
+    let words = state.clock.words;
+    let bytes = state.tombstone.bytes;
+    let close = clock::near_context(&words, context);
+    let full = tombstone_full(&words, &bytes, state.tombstone.count, context);
+    late_answer(!close, full, false, short)
+}
+
+// The refusals 10 to 13 of an add, for a store of so many bytes; short says whether the output is shorter than its message.
+fn add_late(
+    state: State,
+    size: usize,
+    label: &[u8],
+    context: &[u8],
+    dot: dots::Dot,
+    short: bool,
+) -> dots::Answer
+    requires { ⌜ MayOffer state (now label) (now context) dot ⌝ }
+    ensures { λ r. ⌜ r ≡ firstOf (addLate state size (now (label .entry)) dot (dotsOf (now (context .entry))) short) ⌝ }
+{
+    let words = state.clock.words;
+    let bytes = state.tombstone.bytes;
+    let full = tombstone_full(&words, &bytes, state.tombstone.count, context);
+    let close = clock::near_with_dot(&words, context, dot);
+    let seen = clock::sees(&words, dot);
+    let room = size < state.used + (state.name.len + label.len() + 15);
+    late_answer(!close, full, !seen & room, short)
+}
+
 // ---- applying a context
 
 // Puts a dot that was seen into the tombstone, once. Returns how many dots it then has.
@@ -392,6 +427,33 @@ fn state_with(state: State, clock: Clock, tombstone: Tombstone, used: usize) -> 
     }
 }
 
+// The state with a context applied.
+fn removed_state(state: State, context: &[u8]) -> State
+    requires { ⌜ (stateOk state ≡ true) × ContextFits (now context) × (near windowWidth (state .clock .words) (dotsOf (now context)) ≡ true) × (length (insertAll compareDots (keep (sees (state .clock .words)) (dotsOf (now context))) (tombstoneDots state)) ≤ 128) ⌝ }
+    ensures { λ r. ⌜ r ≡ stateWith state (joinAll windowWidth (state .clock .words) (dotsOf (now (context .entry)))) (tombstoneOf (insertAll compareDots (keep (sees (state .clock .words)) (dotsOf (now (context .entry)))) (tombstoneDots state))) (state .used) ⌝ }
+{
+    let words = state.clock.words;
+    let clock = state.clock;
+    let tombstone = state.tombstone;
+    let used = state.used;
+    let removed = next_tombstone(&words, tombstone, context);
+    let seen = clock_with_context(clock, context);
+    state_with(state, seen, removed, used)
+}
+
+// The state with a context and one more dot applied, and another used length.
+fn added_state(state: State, context: &[u8], dot: dots::Dot, used: usize) -> State
+    requires { ⌜ MayJoin state (now context) dot ⌝ }
+    ensures { λ r. ⌜ r ≡ stateWith state (joinAll windowWidth (state .clock .words) (dot ∷ dotsOf (now (context .entry)))) (tombstoneOf (insertAll compareDots (keep (sees (state .clock .words)) (dotsOf (now (context .entry)))) (tombstoneDots state))) used ⌝ }
+{
+    let words = state.clock.words;
+    let clock = state.clock;
+    let tombstone = state.tombstone;
+    let removed = next_tombstone(&words, tombstone, context);
+    let seen = clock_with_dot(clock, context, dot);
+    state_with(state, seen, removed, used)
+}
+
 // Puts the key of an entry in its place, for a set whose name is the first len bytes.
 fn put_entry(
     store: &mut [u8],
@@ -405,6 +467,21 @@ fn put_entry(
     ensures { λ r. ⌜ (r ≡ used + (len + length (now (label .entry)) + 15)) × (now (store .exit) ≡ insertedEntry (take len (now (name .entry))) (now (store .entry)) used (entry (now (label .entry)) dot)) ⌝ }
 {
     store::insert_entry(store, used, &name[..len], label, dot)
+}
+
+// Applies an add's context, joins its dot, and stores its key where the dot was not seen. Returns the state left.
+fn apply_add(state: State, store: &mut [u8], label: &[u8], context: &[u8], dot: dots::Dot) -> State
+    requires { ⌜ MayApply state (now store) (now label) (now context) dot ⌝ }
+    ensures { λ r. ⌜ (r ≡ stateOf state (applied state (now (store .entry)) (now (label .entry)) (dotsOf (now (context .entry))) dot)) × (now (store .exit) ≡ storeOf state (now (store .entry)) (applied state (now (store .entry)) (now (label .entry)) (dotsOf (now (context .entry))) dot)) ⌝ }
+{
+    let words = state.clock.words;
+    let name = state.name.bytes;
+    let used = state.used;
+    if clock::sees(&words, dot) {
+        return added_state(state, context, dot, used);
+    }
+    let grown = put_entry(store, used, &name, state.name.len, label, dot);
+    added_state(state, context, dot, grown)
 }
 
 // Writes the add message of a set whose name is the first len bytes.
@@ -480,6 +557,87 @@ pub fn set_up(actor: u8, name: &[u8]) -> SetUp
     }
 }
 
+// ---- own add
+
+// The dot that an own add takes.
+fn next_dot(state: State) -> dots::Dot
+    requires { ⌜ rowAt (state .clock .words) (state .actor .number) .base + 1 ≤ maxCounter ⌝ }
+    ensures { λ r. ⌜ r ≡ dotOf (state .actor) (rowAt (state .clock .words) (state .actor .number) .base + 1) ⌝ }
+{
+    let words = state.clock.words;
+    let own = state.actor;
+    let base = own_base(&words, own);
+    dots::Dot {
+        actor: own,
+        counter: dots::Counter { number: base + 1 },
+    }
+}
+
+// The refusals 1, 5, 6, 8 and 9 of an own add.
+fn add_early(state: State, store: &[u8], label: &[u8], context: &[u8]) -> dots::Answer
+    ensures { λ r. ⌜ r ≡ firstOf (addEarly state (now (store .entry)) (now (label .entry)) (now (context .entry))) ⌝ }
+{
+    let words = state.clock.words;
+    let own = state.actor;
+    let base = own_base(&words, own);
+    let damage = damaged(state, store);
+    let named = dots::label_ok(label);
+    let bad = context_bad(context);
+    let taken = has_next(own, base, context);
+    let ahead = own_ahead(own, base, context);
+    early_answer(damage, !named, bad | taken, ahead, base == u64::MAX)
+}
+
+// The answer of an own add, for an output of so many bytes.
+fn add_answer(state: State, store: &[u8], label: &[u8], context: &[u8], room: usize) -> dots::Answer
+    ensures { λ r. ⌜ Answers room (ownAddRefusals state (now (store .entry)) (now (label .entry)) (now (context .entry))) r ⌝ }
+{
+    let early = add_early(state, store, label, context);
+    if dots::number_of(early) != 0 {
+        return early;
+    }
+    let dot = next_dot(state);
+    let short = room < state.name.len + label.len() + context.len() + 18;
+    add_late(state, store.len(), label, context, dot, short)
+}
+
+// Writes the add message, and applies the add.
+fn add_done(state: State, store: &mut [u8], label: &[u8], context: &[u8], out: &mut [u8]) -> Outcome
+    requires { ⌜ MayAdd state (now store) (now label) (now context) (length (now out)) ⌝ }
+    ensures { λ r. ⌜ Added state (now (store .entry)) (now (label .entry)) (now (context .entry)) (now (out .entry)) (now (store .exit)) (now (out .exit)) r ⌝ }
+{
+    let name = state.name.bytes;
+    let dot = next_dot(state);
+    let written = put_add(&name, state.name.len, label, dot, context, out);
+    let next = apply_add(state, store, label, context, dot);
+    Outcome {
+        answer: dots::Answer::Done,
+        state: next,
+        written: written,
+    }
+}
+
+// Adds a label under a new dot of this controller, and removes a context. Writes the add message.
+pub fn own_add(
+    state: State,
+    store: &mut [u8],
+    label: &[u8],
+    context: &[u8],
+    out: &mut [u8],
+) -> Outcome
+    ensures { λ r. ⌜ Leaves (ownAddResult state (now (store .entry)) (now (label .entry)) (now (context .entry)) (now (out .entry))) (now (store .exit)) (now (out .exit)) r ⌝ }
+{
+    let answer = add_answer(state, store, label, context, out.len());
+    if dots::number_of(answer) != 0 {
+        return Outcome {
+            answer: answer,
+            state: state,
+            written: 0,
+        };
+    }
+    add_done(state, store, label, context, out)
+}
+
 // ---- own remove
 
 // The refusals 1, 6 and 8 of an own remove.
@@ -495,37 +653,6 @@ fn remove_early(state: State, store: &[u8], context: &[u8]) -> dots::Answer
     early_answer(damage, false, dot, ahead, false)
 }
 
-// The refusals 10, 11 and 13 of an own remove.
-fn remove_late(state: State, context: &[u8], room: usize) -> dots::Answer
-    requires { ⌜ (stateOk state ≡ true) × ContextFits (now context) ⌝ }
-    ensures { λ r. ⌜ r ≡ firstOf (lateRefusals (not (near windowWidth (state .clock .words) (dotsOf (now (context .entry))))) (ltb tombstoneMost (length (insertAll compareDots (keep (sees (state .clock .words)) (dotsOf (now (context .entry)))) (tombstoneDots state)))) false (ltb room (state .name .len + length (now (context .entry)) + 8))) ⌝ }
-{
-    let words = state.clock.words;
-    let bytes = state.tombstone.bytes;
-    let close = clock::near_context(&words, context);
-    let full = tombstone_full(&words, &bytes, state.tombstone.count, context);
-    late_answer(
-        !close,
-        full,
-        false,
-        room < state.name.len + context.len() + 8,
-    )
-}
-
-// The state with a context applied.
-fn removed_state(state: State, context: &[u8]) -> State
-    requires { ⌜ (stateOk state ≡ true) × ContextFits (now context) × (near windowWidth (state .clock .words) (dotsOf (now context)) ≡ true) × (length (insertAll compareDots (keep (sees (state .clock .words)) (dotsOf (now context))) (tombstoneDots state)) ≤ 128) ⌝ }
-    ensures { λ r. ⌜ r ≡ stateWith state (joinAll windowWidth (state .clock .words) (dotsOf (now (context .entry)))) (tombstoneOf (insertAll compareDots (keep (sees (state .clock .words)) (dotsOf (now (context .entry)))) (tombstoneDots state))) (state .used) ⌝ }
-{
-    let words = state.clock.words;
-    let clock = state.clock;
-    let tombstone = state.tombstone;
-    let used = state.used;
-    let removed = next_tombstone(&words, tombstone, context);
-    let seen = clock_with_context(clock, context);
-    state_with(state, seen, removed, used)
-}
-
 // The answer of an own remove, for an output of so many bytes.
 fn remove_answer(state: State, store: &[u8], context: &[u8], room: usize) -> dots::Answer
     ensures { λ r. ⌜ Answers room (ownRemoveRefusals state (now (store .entry)) (now (context .entry))) r ⌝ }
@@ -534,7 +661,8 @@ fn remove_answer(state: State, store: &[u8], context: &[u8], room: usize) -> dot
     if dots::number_of(early) != 0 {
         return early;
     }
-    remove_late(state, context, room)
+    let short = room < state.name.len + context.len() + 8;
+    remove_late(state, context, short)
 }
 
 // Applies a context and writes the remove message.
@@ -565,6 +693,137 @@ pub fn own_remove(state: State, store: &[u8], context: &[u8], out: &mut [u8]) ->
         };
     }
     remove_done(state, context, out)
+}
+
+// ---- taking in
+
+// Refusal 7: whether a message's name is another than the first len bytes.
+fn other_set(name: &[u8], len: usize, given: &[u8]) -> bool
+    requires { ⌜ len ≤ length (now name) ⌝ }
+    ensures { λ r. ⌜ r ≡ not (isEq (compareBytes (now (given .entry)) (take len (now (name .entry))))) ⌝ }
+{
+    let starts = wire::starts_with(given, &name[..len]);
+    !(starts & (given.len() == len))
+}
+
+// The first of the refusals 7 and 8 whose test holds, else what comes after them.
+fn taken_answer(other: bool, ahead: bool, late: dots::Answer) -> dots::Answer
+    ensures { λ r. ⌜ r ≡ takenAnswer other ahead late ⌝ }
+{
+    dots::first(
+        other,
+        dots::Answer::OtherSet,
+        dots::first(ahead, dots::Answer::OwnAhead, late),
+    )
+}
+
+// The refusals 7, 8 and 10 to 12 of an add that is taken in, for a store of so many bytes.
+fn taken_add(
+    state: State,
+    size: usize,
+    given: &[u8],
+    label: &[u8],
+    context: &[u8],
+    dot: dots::Dot,
+) -> dots::Answer
+    requires { ⌜ MayOffer state (now label) (now context) dot ⌝ }
+    ensures { λ r. ⌜ r ≡ firstOf (takenLate state size (now (given .entry)) (add (now (label .entry)) dot (dotsOf (now (context .entry))))) ⌝ }
+{
+    let words = state.clock.words;
+    let name = state.name.bytes;
+    let own = state.actor;
+    let base = own_base(&words, own);
+    let other = other_set(&name, state.name.len, given);
+    let ahead = own_ahead(own, base, context);
+    let late = add_late(state, size, label, context, dot, false);
+    taken_answer(other, dot_ahead(own, base, dot) | ahead, late)
+}
+
+// The refusals 7, 8, 10 and 11 of a remove that is taken in.
+fn taken_remove(state: State, given: &[u8], context: &[u8]) -> dots::Answer
+    requires { ⌜ (stateOk state ≡ true) × ContextFits (now context) ⌝ }
+    ensures { λ r. ⌜ r ≡ firstOf (takenLate state 0 (now (given .entry)) (remove (dotsOf (now (context .entry))))) ⌝ }
+{
+    let words = state.clock.words;
+    let name = state.name.bytes;
+    let own = state.actor;
+    let base = own_base(&words, own);
+    let other = other_set(&name, state.name.len, given);
+    let ahead = own_ahead(own, base, context);
+    let late = remove_late(state, context, false);
+    taken_answer(other, ahead, late)
+}
+
+// The refusals 7, 8 and 10 to 12 of a message, for a store of so many bytes.
+fn taken_late(
+    state: State,
+    size: usize,
+    message: &[u8],
+    read: messages::MessageRead,
+) -> dots::Answer
+    requires { ⌜ (stateOk state ≡ true) × (state .used ≤ storeMost) × Found (now message) read ⌝ }
+    ensures { λ r. ⌜ r ≡ firstOf (takenLate state size (messageName (now (message .entry))) (messageOf (now (message .entry)))) ⌝ }
+{
+    let given = wire::part(message, read.name.at, read.name.len);
+    let context = wire::part(message, read.context.at, read.context.len);
+    if read.kind == b'a' {
+        let label = wire::part(message, read.label.at, read.label.len);
+        return taken_add(state, size, given, label, context, read.dot);
+    }
+    taken_remove(state, given, context)
+}
+
+// The answer of taking a message in that was read.
+fn take_answer(
+    state: State,
+    store: &[u8],
+    message: &[u8],
+    read: messages::MessageRead,
+) -> dots::Answer
+    requires { ⌜ read ≡ readOf (now message) ⌝ }
+    ensures { λ r. ⌜ r ≡ firstOf (takeInRefusals state (now (store .entry)) (now (message .entry))) ⌝ }
+{
+    let said = read.answer;
+    let damage = damaged(state, store);
+    let early = dots::first(damage, dots::Answer::Damaged, said);
+    if dots::number_of(early) != 0 {
+        return early;
+    }
+    taken_late(state, store.len(), message, read)
+}
+
+// Applies a message that was read and is not refused. Returns the state left.
+fn take_done(state: State, store: &mut [u8], message: &[u8], read: messages::MessageRead) -> State
+    requires { ⌜ MayTakeIn state (now store) (now message) read ⌝ }
+    ensures { λ r. ⌜ (r ≡ stateOf state (effect clockModel (view state (now (store .entry))) (takeIn (messageOf (now (message .entry)))))) × (now (store .exit) ≡ storeOf state (now (store .entry)) (effect clockModel (view state (now (store .entry))) (takeIn (messageOf (now (message .entry)))))) ⌝ }
+{
+    let context = wire::part(message, read.context.at, read.context.len);
+    if read.kind == b'a' {
+        let label = wire::part(message, read.label.at, read.label.len);
+        return apply_add(state, store, label, context, read.dot);
+    }
+    removed_state(state, context)
+}
+
+// Takes a message in.
+pub fn take_in(state: State, store: &mut [u8], message: &[u8]) -> Outcome
+    ensures { λ r. ⌜ Leaves (takeInResult state (now (store .entry)) (now (message .entry))) (now (store .exit)) [] r ⌝ }
+{
+    let read = messages::read_message(message);
+    let answer = take_answer(state, store, message, read);
+    if dots::number_of(answer) != 0 {
+        return Outcome {
+            answer: answer,
+            state: state,
+            written: 0,
+        };
+    }
+    let next = take_done(state, store, message, read);
+    Outcome {
+        answer: dots::Answer::Done,
+        state: next,
+        written: 0,
+    }
 }
 
 // ---- listing

@@ -1,9 +1,9 @@
--- Near, room in the tombstone and room in the output, each as its definition says.
-use Rattle.controller.proofs.OwnRemove.{kept, tombstoned, offer}
-use native.Mathlib.Omega.{arith}
-use mathlib.Core.Path.{_≡_}
+-- Near, and room in the tombstone, each as its definition says.
+use Rattle.controller.proofs.Answers.{kept, tombstoned, offer}
+use mathlib.Core.Path.{_≡_, _∙_}
 use lib.ListN.{length}
-use mathlib.Core.Path.{_∙_}
+use Prim.Native.Nat.{ℕ}
+use borrow.Author.Needs.{length-unmapped}
 use borrow.Author.Needs.{needs}
 use Rattle.controller.proofs.remove_late.Statement.{statement}
 use Rattle.controller.proofs.remove_late.Tie as tie
@@ -15,19 +15,13 @@ slice-aggregate-tombstone-full : tie.Need-slice-aggregate-tombstone-full
 slice-aggregate-tombstone-full c = search needs
 
 tombstone-full-requires : tie.Need-tombstone-full-requires
-tombstone-full-requires c κs = let s = c .before .before .before .before .before .before .before in let size : length (s .args .state .tombstone .bytes) ≡ 1152 = search needs in (tombstoned (s .args .state) (kept (s .args .state) (s .pre .0)) size, s .pre .1)
-
-add-late-answer : tie.Need-add-late-answer
-add-late-answer c = let s = c .before .before .before .before .before .before .before .before .before in let short = kept (s .args .state) (s .pre .0) .short in let few = s .pre .1 .short in omega arith
-
-add-late-answer-2 : tie.Need-add-late-answer-2
-add-late-answer-2 c = let s = c .before .before .before .before .before .before .before .before .before in let short = kept (s .args .state) (s .pre .0) .short in let few = s .pre .1 .short in omega arith
+tombstone-full-requires c κs = let s = c .before .before .before .before .before .before .before in let size : length (s .args .state .tombstone .bytes) ≡ 1152 = length-unmapped ℕ (s .args .state .tombstone .bytes) 1152 (s .good .0 .1 .1 .1 .1 .1 .0 .1 .1 .0 .1 .0 .1) in (tombstoned (s .args .state) (kept (s .args .state) (s .pre .0)) size, s .pre .1)
 
 late-answer-requires : tie.Need-late-answer-requires
 late-answer-requires c κs = search needs
 
 returns : tie.Need-returns
-returns c = c .late-answer .ensures ∙ rw (c .before .before .before .before .before .near-context .ensures, c .before .before .tombstone-full .ensures)
+returns c = c .late-answer .ensures ∙ rw (c .before .before .before .before .near-context .ensures, c .before .tombstone-full .ensures)
 
 pub remove-late-spec : {M : Type 1} → statement M
 remove-late-spec =
@@ -36,7 +30,5 @@ remove-late-spec =
     near-context-requires
     slice-aggregate-tombstone-full
     tombstone-full-requires
-    add-late-answer
-    add-late-answer-2
     late-answer-requires
     returns)

@@ -1,11 +1,11 @@
 -- The tombstone and the clock take the context; all else stays.
-use Rattle.controller.proofs.OwnRemove.{kept, padded-tombstone, offer}
+use Rattle.controller.proofs.Answers.{kept, padded-tombstone, offer}
 use mathlib.Core.Path.{_≡_}
 use Prim.Native.Nat.{ℕ}
 use lib.ListN.{length, getD}
 use mir.Val.{Fits}
 use mir.Syntax.{w8}
-use Rattle.controller.proofs.OwnRemove.{with-parts}
+use Rattle.controller.proofs.Answers.{with-parts}
 use borrow.Author.Needs.{needs}
 use Rattle.controller.proofs.removed_state.Statement.{statement}
 use Rattle.controller.proofs.removed_state.Tie as tie
