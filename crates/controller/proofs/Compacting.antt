@@ -27,16 +27,16 @@ use Rattle.store.proofs.Pieces.{in-place-padded}
 use Rattle.store.proofs.Marks.{keep-shorter}
 use Rattle.store.proofs.CompactedEntries.{store-left, used-left, tombstone-left, count-left}
 use Rattle.replica.specs.Machine.{live, droppedDots, compacted, effect}
-use Rattle.controller.specs.declared.State.{State}
-use Rattle.controller.specs.State.{clockModel, Machine, nameOf, tombstoneDots, usedPart, entries, view}
-use Rattle.controller.specs.Damage.{zeroFrom, stateNameOk, tombstoneOk, damaged}
-use Rattle.controller.specs.Effect.{padded, tombstoneOf, keysPart, stateOf, storeOf}
-use Rattle.controller.specs.Tests.{stateWith}
-use Rattle.controller.specs.Calls.{refused, compactResult, compactDone}
-use Rattle.controller.specs.Promise.{Leaves}
-use Rattle.controller.proofs.Parts.{front-size}
-use Rattle.controller.proofs.Clauses.{Undamaged, undamaged, used-fits, entries-of}
-use Rattle.controller.proofs.Whole.{keep-size}
+use Rattle.calls.specs.declared.State.{State}
+use Rattle.calls.specs.State.{clockModel, Machine, nameOf, tombstoneDots, usedPart, entries, view}
+use Rattle.calls.specs.Damage.{zeroFrom, stateNameOk, tombstoneOk, damaged}
+use Rattle.calls.specs.Effect.{padded, tombstoneOf, keysPart, stateOf, storeOf}
+use Rattle.steps.specs.Tests.{stateWith}
+use Rattle.calls.specs.Calls.{refused, compactResult, compactDone}
+use Rattle.calls.specs.Promise.{Leaves}
+use Rattle.steps.proofs.Parts.{front-size}
+use Rattle.calls.proofs.Clauses.{Undamaged, undamaged, used-fits, entries-of}
+use Rattle.calls.proofs.Whole.{keep-size}
 
 -- ---- bytes that are 0
 

@@ -1,33 +1,6 @@
--- Validity: rules of dots and entries that effects keep. Decided: refused calls, accepted calls. Reading: what is written back is read again.
--- Clauses: what undamaged says. Guard, Applied, Accepted, TakenIn: what a call's acceptance says. Instance: the calls as a controller of the machine.
--- Sequences: calls in a row. Demand3: demand 3. OwnRow, Whole, Undamaged: an accepted call leaves an undamaged state. Cases: document 01's cases.
--- Parts, DotLoops, Joining, DamageTest, TombstoneBytes: laws for the functions of the crate.
--- Performed, Answers, Adds: calls that apply a context. OwnAdd, OwnRemove, TakeIn: these calls. ReadCalls: listing and lookup. Compacting: compaction.
-pub mod Validity
-pub mod Decided
-pub mod Reading
-pub mod Clauses
-pub mod Guard
-pub mod Applied
-pub mod Accepted
-pub mod TakenIn
-pub mod Instance
-pub mod Sequences
-pub mod Demand3
-pub mod OwnRow
-pub mod Whole
-pub mod Undamaged
-pub mod Cases
-pub mod Parts
-pub mod DotLoops
-pub mod Joining
-pub mod DamageTest
-pub mod TombstoneBytes
-pub mod Performed
-pub mod Answers
-pub mod OwnRemove
-pub mod Adds
+-- OwnAdd, OwnRemove, TakeIn: these calls. ReadCalls: listing and lookup. Compacting: compaction.
 pub mod OwnAdd
+pub mod OwnRemove
 pub mod TakeIn
 pub mod ReadCalls
 pub mod Compacting

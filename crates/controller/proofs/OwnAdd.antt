@@ -1,6 +1,6 @@
 -- Own add: its refusals as the code groups them, and what its acceptance gives the code to go on with. Assumes nothing.
 use Prim.Native.Nat.{ℕ, _+_, _≤_}
-use mathlib.Core.Path.{_≡_, refl, sym, ap, _∙_}
+use mathlib.Core.Path.{_≡_, refl, sym, ap, subst, _∙_}
 use mathlib.Core.Bool.{true, false}
 use mathlib.Core.List.{[], _∷_, _++_}
 use native.Mathlib.Omega.{arith}
@@ -24,17 +24,21 @@ use Rattle.clock.proofs.Clocks.{rows-well}
 use Rattle.messages.specs.Message.{messageBytes}
 use Rattle.messages.proofs.Lengths.{length-add}
 use Rattle.replica.specs.Machine.{ownAdd, ifUnseen, apply, effect}
-use Rattle.controller.specs.declared.State.{State}
-use Rattle.controller.specs.declared.Outcome.{Outcome}
-use Rattle.controller.specs.State.{clockModel, nameOf, view}
-use Rattle.controller.specs.Refusals.{badContext, hasDot, tooFar, tombstoneFull, storeFull, outputShort}
-use Rattle.controller.specs.Calls.{addWritten, ownAddRefusals, ownAddDone, ownAddResult}
-use Rattle.controller.specs.Promise.{Leaves}
-use Rattle.controller.specs.Tests.{Answers, stateOk, ContextFits, ownNext, lateRefusals, addEarly, addLate, MayOffer, MayAdd, Added, applied}
-use Rattle.controller.proofs.Clauses.{Undamaged, undamaged, rows-ok, used-fits, store-fits}
-use Rattle.controller.proofs.Guard.{next-ok, next-unseen}
-use Rattle.controller.proofs.Answers.{stops, none-of, passes, leaves-refused, leaves-done, state-kept, dots-many, context-fits}
-use Rattle.controller.proofs.Adds.{name-length, store-full}
+use Rattle.calls.specs.declared.State.{State}
+use Rattle.calls.specs.declared.Outcome.{Outcome}
+use Rattle.calls.specs.State.{clockModel, nameOf, view}
+use Rattle.calls.specs.Refusals.{badContext, hasDot, tooFar, tombstoneFull, storeFull, outputShort}
+use Rattle.calls.specs.Calls.{addWritten, ownAddRefusals, ownAddDone, ownAddResult}
+use Rattle.calls.specs.Promise.{Leaves}
+use Rattle.steps.specs.Tests.{stateOk, ContextFits, ownNext, lateRefusals, addLate, MayOffer, applied}
+use Rattle.controller.specs.Work.{Answers, addEarly, MayAdd, Added}
+use Rattle.calls.proofs.Clauses.{Undamaged, undamaged, rows-ok, used-fits, store-fits}
+use Rattle.calls.proofs.Guard.{next-ok, next-unseen}
+use Rattle.steps.proofs.Answers.{stops, none-of, passes, leaves-refused, leaves-done, state-kept, dots-many, context-fits}
+use Rattle.steps.proofs.Adds.{name-length, store-full}
+use Rattle.dots.specs.declared.Answer.the-variants.{Done}
+use Rattle.messages.specs.Write.{Wrote}
+use Rattle.calls.specs.Effect.{stateOf, storeOf}
 
 -- how long the message is
 add-size : (st : State) (label context : Bytes) (d : Dot) → length (st .name .bytes) ≡ 16 → stateOk st ≡ true → ContextFits context
@@ -160,3 +164,15 @@ module _ (st : State) (store label context out : Bytes) (a : Answer) (k : ℕ) (
           store-is = rw is at (left .store-is);
           out-is = left .wrote .bytes ∙ ap (λ (n : ℕ). messageBytes (nameOf st) (add label (ownNext st) (dotsOf context)) ++ drop n out) (left .wrote .size);
         })
+
+-- what an own add leaves, d being its dot
+pub add-done-leaves : (st : State) (store label context out : Bytes) (d : Dot) → d ≡ ownNext st → (store′ out′ : Bytes) (r : State) (written : ℕ)
+    → (r ≡ stateOf st (applied st store label (dotsOf context) d)) × (store′ ≡ storeOf st store (applied st store label (dotsOf context) d))
+    → Wrote (nameOf st) (add label d (dotsOf context)) out out′ written
+    → Added st store label context out store′ out′ (record { answer = Done; state = r; written = written })
+add-done-leaves st store label context out d e store′ out′ r written left wrote = record {
+  answered = refl;
+  state-is = rw e at (left .0);
+  store-is = rw e at (left .1);
+  wrote = subst (λ (x : Dot). Wrote (nameOf st) (add label x (dotsOf context)) out out′ written) e wrote;
+}

@@ -19,17 +19,18 @@ use Rattle.dots.proofs.Rules.{ascending-valid}
 use Rattle.messages.specs.Message.{messageBytes}
 use Rattle.messages.proofs.Lengths.{length-remove}
 use Rattle.replica.specs.Machine.{ownRemove, apply, effect}
-use Rattle.controller.specs.declared.State.{State}
-use Rattle.controller.specs.declared.Outcome.{Outcome}
-use Rattle.controller.specs.State.{nameOf, view}
-use Rattle.controller.specs.Damage.{damaged}
-use Rattle.controller.specs.Refusals.{badContext, ownAhead, tooFar, tombstoneFull, outputShort}
-use Rattle.controller.specs.Calls.{ownRemoveRefusals, removeWritten, ownRemoveDone, ownRemoveResult}
-use Rattle.controller.specs.Promise.{Leaves}
-use Rattle.controller.specs.Tests.{Answers, MayRemove, Removed, stateOk, ContextFits, earlyRefusals, lateRefusals, removeLate}
-use Rattle.controller.proofs.Clauses.{undamaged}
-use Rattle.controller.proofs.Performed.{removed-state, removed-store}
-use Rattle.controller.proofs.Answers.{stops, none-of, passes, leaves-refused, leaves-done, state-kept, dots-many, context-fits, kept}
+use Rattle.calls.specs.declared.State.{State}
+use Rattle.calls.specs.declared.Outcome.{Outcome}
+use Rattle.calls.specs.State.{nameOf, view}
+use Rattle.calls.specs.Damage.{damaged}
+use Rattle.calls.specs.Refusals.{badContext, ownAhead, tooFar, tombstoneFull, outputShort}
+use Rattle.calls.specs.Calls.{ownRemoveRefusals, removeWritten, ownRemoveDone, ownRemoveResult}
+use Rattle.calls.specs.Promise.{Leaves}
+use Rattle.steps.specs.Tests.{stateOk, ContextFits, earlyRefusals, lateRefusals, removeLate}
+use Rattle.controller.specs.Work.{Answers, MayRemove, Removed}
+use Rattle.calls.proofs.Clauses.{undamaged}
+use Rattle.steps.proofs.Performed.{removed-state, removed-store}
+use Rattle.steps.proofs.Answers.{stops, none-of, passes, leaves-refused, leaves-done, state-kept, dots-many, context-fits, kept}
 
 -- ---- own remove
 

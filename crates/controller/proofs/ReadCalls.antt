@@ -31,16 +31,16 @@ use Rattle.store.proofs.Inserted.{while-within}
 use Rattle.store.proofs.RoundTrip.{UsedEntries, keys-fit, entries-written}
 use Rattle.store.proofs.Stretches.{stretch-start, stretch-end, stretch-bytes}
 use Rattle.replica.specs.Machine.{listing, found}
-use Rattle.controller.specs.declared.State.{State}
-use Rattle.controller.specs.declared.Listed.{Listed}
-use Rattle.controller.specs.State.{clockModel, nameOf, tombstoneDots, usedPart, entries, view}
-use Rattle.controller.specs.Damage.{stateNameOk, tombstoneOk, damaged}
-use Rattle.controller.specs.Effect.{putOut}
-use Rattle.controller.specs.Refusals.{outputShort}
-use Rattle.controller.specs.Calls.{refused, listResult, Looked, notLooked, lowerLabels, sameLabel, bytesOf, lookupRefusals, lookupDone, lookupResult}
-use Rattle.controller.specs.Promise.{Lists, LooksUp}
+use Rattle.calls.specs.declared.State.{State}
+use Rattle.calls.specs.declared.Listed.{Listed}
+use Rattle.calls.specs.State.{clockModel, nameOf, tombstoneDots, usedPart, entries, view}
+use Rattle.calls.specs.Damage.{stateNameOk, tombstoneOk, damaged}
+use Rattle.calls.specs.Effect.{putOut}
+use Rattle.calls.specs.Refusals.{outputShort}
+use Rattle.calls.specs.Calls.{refused, listResult, Looked, notLooked, lowerLabels, sameLabel, bytesOf, lookupRefusals, lookupDone, lookupResult}
+use Rattle.calls.specs.Promise.{Lists, LooksUp}
 use Rattle.controller.specs.Reads.{Readable, linesIn, ListsLines}
-use Rattle.controller.proofs.Clauses.{undamaged, used-fits, store-fits, entries-of}
+use Rattle.calls.proofs.Clauses.{undamaged, used-fits, store-fits, entries-of}
 
 -- ---- what they count on
 

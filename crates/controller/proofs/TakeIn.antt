@@ -33,19 +33,20 @@ use Rattle.messages.specs.Read.{nameOf as messageName, messageOf, readRefusals,
 use Rattle.messages.proofs.Accepted.{Found, found, read-answers}
 use Rattle.store.specs.Valid.{storeMost}
 use Rattle.replica.specs.Machine.{takeIn, apply, effect}
-use Rattle.controller.specs.declared.State.{State}
-use Rattle.controller.specs.declared.Outcome.{Outcome}
-use Rattle.controller.specs.State.{clockModel, nameOf, view}
-use Rattle.controller.specs.Damage.{tombstoneMost, damaged}
-use Rattle.controller.specs.Effect.{tombstoneOf, stateOf, storeOf}
-use Rattle.controller.specs.Refusals.{otherSet, ownAhead, tooFar, tombstoneFull, storeFull}
-use Rattle.controller.specs.Calls.{toStore, takeInRefusals, takeInDone, takeInResult}
-use Rattle.controller.specs.Promise.{Leaves}
-use Rattle.controller.specs.Tests.{stateOk, stateWith, aheadOf, nextTombstone, ContextFits, addLate, removeLate, takenLate, takenAnswer, MayOffer, MayApply, MayTakeIn, applied}
-use Rattle.controller.proofs.Clauses.{undamaged, used-fits, store-fits}
-use Rattle.controller.proofs.Performed.{removed-state, removed-store}
-use Rattle.controller.proofs.Answers.{stops, none-of, passes, leaves-refused, leaves-done, state-kept}
-use Rattle.controller.proofs.Adds.{name-length, store-full}
+use Rattle.calls.specs.declared.State.{State}
+use Rattle.calls.specs.declared.Outcome.{Outcome}
+use Rattle.calls.specs.State.{clockModel, nameOf, view}
+use Rattle.calls.specs.Damage.{tombstoneMost, damaged}
+use Rattle.calls.specs.Effect.{tombstoneOf, stateOf, storeOf}
+use Rattle.calls.specs.Refusals.{otherSet, ownAhead, tooFar, tombstoneFull, storeFull}
+use Rattle.calls.specs.Calls.{toStore, takeInRefusals, takeInDone, takeInResult}
+use Rattle.calls.specs.Promise.{Leaves}
+use Rattle.steps.specs.Tests.{stateOk, stateWith, aheadOf, nextTombstone, ContextFits, addLate, removeLate, MayOffer, MayApply, applied}
+use Rattle.controller.specs.Work.{takenLate, takenAnswer, MayTakeIn}
+use Rattle.calls.proofs.Clauses.{undamaged, used-fits, store-fits}
+use Rattle.steps.proofs.Performed.{removed-state, removed-store}
+use Rattle.steps.proofs.Answers.{stops, none-of, passes, leaves-refused, leaves-done, state-kept}
+use Rattle.steps.proofs.Adds.{name-length, store-full}
 
 -- ---- refusal 7
 

@@ -1,15 +1,3 @@
--- State: what a state and its store stand for. Damage: refusal 1. Effect: a machine's state written back. Refusals: the tests of the table.
--- Calls: the calls on bytes. Sequence: calls in a row. Demand3: the claim about every sequence. Promise: what each public call promises.
--- Cases: the settled cases of document 01. Line: its other cases, and more. Tests: the tests of the table as the code groups them. Reads: what listing and lookup read.
-pub mod State
-pub mod Damage
-pub mod Effect
-pub mod Refusals
-pub mod Calls
-pub mod Sequence
-pub mod Demand3
-pub mod Promise
-pub mod Cases
-pub mod Line
-pub mod Tests
+-- Work: what the calls that change a state test, count on and leave. Reads: what listing and lookup read.
+pub mod Work
 pub mod Reads

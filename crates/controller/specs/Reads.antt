@@ -12,10 +12,10 @@ use Rattle.dots.specs.Entries.{Line}
 use Rattle.store.specs.Cut.{entriesIn}
 use Rattle.store.specs.Valid.{storeMost, keysFit}
 use Rattle.store.specs.Listing.{linesOfLive, listingBytes}
-use Rattle.controller.specs.declared.Listed.{Listed}
-use Rattle.controller.specs.Effect.{putOut}
-use Rattle.controller.specs.Refusals.{outputShort}
-use Rattle.controller.specs.Tests.{Tombstoned}
+use Rattle.calls.specs.declared.Listed.{Listed}
+use Rattle.calls.specs.Effect.{putOut}
+use Rattle.calls.specs.Refusals.{outputShort}
+use Rattle.steps.specs.Tests.{Tombstoned}
 
 -- store and tombstone of an undamaged state
 pub record Readable (n used count : ℕ) (store tombstone : Bytes) : Type 0 where

@@ -1,13 +1,13 @@
 -- The first refusal of the two groups in a row.
 use Rattle.controller.proofs.OwnAdd.{add-refused, add-next, add-kept, add-passed}
-use Rattle.controller.proofs.Answers.{kept, label-short}
+use Rattle.steps.proofs.Answers.{kept, label-short}
 use Prim.Native.Nat.{ℕ}
 use mathlib.Core.Path.{_≡_, sym, subst}
 use lib.ListN.{length}
 use native.Mathlib.Omega.{arith}
 use borrow.Author.Needs.{length-unmapped}
 use Rattle.dots.specs.declared.Dot.{Dot}
-use Rattle.controller.specs.Tests.{MayOffer}
+use Rattle.steps.specs.Tests.{MayOffer}
 use borrow.Author.Needs.{needs}
 use Rattle.controller.proofs.add_answer.Statement.{statement}
 use Rattle.controller.proofs.add_answer.Tie as tie

@@ -1,10 +1,10 @@
 -- The message is written, then the add applied.
-use Rattle.controller.proofs.Answers.{kept, label-short}
+use Rattle.steps.proofs.Answers.{kept, label-short}
 use mathlib.Core.Path.{sym, subst}
 use native.Mathlib.Omega.{arith}
 use Rattle.dots.specs.declared.Dot.{Dot}
-use Rattle.controller.specs.Tests.{MayApply}
-use Rattle.controller.proofs.Adds.{add-done-leaves}
+use Rattle.steps.specs.Tests.{MayApply}
+use Rattle.controller.proofs.OwnAdd.{add-done-leaves}
 use borrow.Author.Needs.{needs}
 use Rattle.controller.proofs.add_done.Statement.{statement}
 use Rattle.controller.proofs.add_done.Tie as tie

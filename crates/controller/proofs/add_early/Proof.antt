@@ -1,5 +1,5 @@
 -- Each test is its definition.
-use Rattle.controller.proofs.Answers.{ahead-is}
+use Rattle.steps.proofs.Answers.{ahead-is}
 use mathlib.Core.Path.{_∙_}
 use Rattle.dots.specs.Wire.{dotsOf}
 use borrow.Author.Needs.{needs}

@@ -3,7 +3,7 @@ use Prim.Native.Nat.{_*_, _≤_}
 use mathlib.Core.Path.{_≡_}
 use native.Mathlib.Omega.{arith}
 use lib.ListN.{length}
-use Rattle.controller.proofs.Parts.{front-size}
+use Rattle.steps.proofs.Parts.{front-size}
 use borrow.Author.Needs.{needs}
 use Rattle.controller.proofs.any_listed.Statement.{statement}
 use Rattle.controller.proofs.any_listed.Tie as tie

@@ -5,9 +5,9 @@ use Prim.Native.Nat.{ℕ}
 use lib.ListN.{length, replicate}
 use Rattle.dots.specs.Dots.{actorOf}
 use Rattle.dots.specs.Wire.{dotsBytes}
-use Rattle.controller.specs.declared.State.{State}
-use Rattle.controller.specs.Calls.{freshState}
-use Rattle.controller.specs.Effect.{padded}
+use Rattle.calls.specs.declared.State.{State}
+use Rattle.calls.specs.Calls.{freshState}
+use Rattle.calls.specs.Effect.{padded}
 use borrow.Author.Needs.{needs}
 use Rattle.controller.proofs.fresh_state.Statement.{statement}
 use Rattle.controller.proofs.fresh_state.Tie as tie

@@ -2,7 +2,7 @@
 use mathlib.Core.Path.{_≡_, sym, _∙_}
 use mathlib.Core.Bool.{false}
 use lib.ListN.{length}
-use Rattle.controller.specs.Damage.{damaged}
+use Rattle.calls.specs.Damage.{damaged}
 use Rattle.controller.proofs.ReadCalls.{readable, damaged-listing, undamaged-listing}
 use borrow.Author.Needs.{needs}
 use Rattle.controller.proofs.list.Statement.{statement}

@@ -9,7 +9,7 @@ use Rattle.wire.specs.Bytes.{Bytes}
 use Rattle.dots.specs.declared.Answer.the-variants.{Done, OutputShort}
 use Rattle.dots.specs.Entries.{Line}
 use Rattle.store.specs.Listing.{listingBytes}
-use Rattle.controller.specs.Effect.{putOut}
+use Rattle.calls.specs.Effect.{putOut}
 use Rattle.controller.specs.Reads.{ListsLines}
 use borrow.Author.Needs.{needs}
 use Rattle.controller.proofs.list_keys.Statement.{statement}

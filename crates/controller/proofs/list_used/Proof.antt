@@ -1,7 +1,7 @@
 -- Used part and tombstone are fronts of what is lent.
 use Prim.Native.Nat.{_*_}
 use native.Mathlib.Omega.{arith}
-use Rattle.controller.proofs.Parts.{front-size}
+use Rattle.steps.proofs.Parts.{front-size}
 use borrow.Author.Needs.{needs}
 use Rattle.controller.proofs.list_used.Statement.{statement}
 use Rattle.controller.proofs.list_used.Tie as tie

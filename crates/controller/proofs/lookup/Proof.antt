@@ -2,7 +2,7 @@
 use mathlib.Core.Path.{_≡_, sym}
 use native.Mathlib.Omega.{arith}
 use lib.ListN.{length}
-use Rattle.controller.proofs.Clauses.{undamaged, name-ok, used-fits}
+use Rattle.calls.proofs.Clauses.{undamaged, name-ok, used-fits}
 use Rattle.controller.proofs.ReadCalls.{name-most, name-size, tombstone-most, tombstone-ascends, may-look, not-looked, stretch-fits, looked}
 use borrow.Author.Needs.{needs}
 use Rattle.controller.proofs.lookup.Statement.{statement}

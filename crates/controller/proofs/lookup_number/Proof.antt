@@ -6,10 +6,10 @@ use Rattle.wire.specs.Bytes.{Bytes}
 use Rattle.dots.specs.Answer.{numberOf, firstOf}
 use Rattle.dots.specs.declared.Answer.{Answer}
 use Rattle.dots.specs.Names.{labelOk}
-use Rattle.controller.specs.declared.State.{State}
-use Rattle.controller.specs.Damage.{damaged}
-use Rattle.controller.specs.Tests.{earlyRefusals}
-use Rattle.controller.specs.Calls.{lookupRefusals}
+use Rattle.calls.specs.declared.State.{State}
+use Rattle.calls.specs.Damage.{damaged}
+use Rattle.steps.specs.Tests.{earlyRefusals}
+use Rattle.calls.specs.Calls.{lookupRefusals}
 use mathlib.Core.Bool.{false}
 use borrow.Author.Needs.{needs}
 use Rattle.controller.proofs.lookup_number.Statement.{statement}

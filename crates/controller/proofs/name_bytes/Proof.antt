@@ -5,8 +5,8 @@ use Prim.Native.Nat.{ℕ}
 use lib.ListN.{length, replicate}
 use Rattle.wire.specs.Bytes.{putAt}
 use Rattle.wire.proofs.Fields.{put-front}
-use Rattle.controller.specs.Effect.{padded}
-use Rattle.controller.proofs.TombstoneBytes.{drop-zeros}
+use Rattle.calls.specs.Effect.{padded}
+use Rattle.steps.proofs.TombstoneBytes.{drop-zeros}
 use borrow.Author.Needs.{needs}
 use Rattle.controller.proofs.name_bytes.Statement.{statement}
 use Rattle.controller.proofs.name_bytes.Tie as tie

@@ -1,6 +1,6 @@
 -- Equal bytes begin alike and are as long.
 use Rattle.controller.proofs.TakeIn.{other-set-is}
-use Rattle.controller.proofs.Parts.{front-size}
+use Rattle.steps.proofs.Parts.{front-size}
 use borrow.Author.Needs.{needs}
 use Rattle.controller.proofs.other_set.Statement.{statement}
 use Rattle.controller.proofs.other_set.Tie as tie

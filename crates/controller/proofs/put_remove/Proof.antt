@@ -1,5 +1,5 @@
 -- The name is the front of the bytes.
-use Rattle.controller.proofs.Parts.{front-size}
+use Rattle.steps.proofs.Parts.{front-size}
 use borrow.Author.Needs.{needs}
 use Rattle.controller.proofs.put_remove.Statement.{statement}
 use Rattle.controller.proofs.put_remove.Tie as tie

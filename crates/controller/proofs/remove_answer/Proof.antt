@@ -1,6 +1,6 @@
 -- The first refusal of the two groups in a row.
 use Rattle.controller.proofs.OwnRemove.{remove-refused, remove-kept, remove-passed}
-use Rattle.controller.proofs.Answers.{kept}
+use Rattle.steps.proofs.Answers.{kept}
 use Prim.Native.Nat.{ℕ}
 use mathlib.Core.Path.{_≡_}
 use lib.ListN.{length}

@@ -1,5 +1,5 @@
 -- The message is written, then the context applied.
-use Rattle.controller.proofs.Answers.{kept}
+use Rattle.steps.proofs.Answers.{kept}
 use native.Mathlib.Omega.{arith}
 use borrow.Author.Needs.{needs}
 use Rattle.controller.proofs.remove_done.Statement.{statement}

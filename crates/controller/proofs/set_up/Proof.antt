@@ -9,9 +9,9 @@ use borrow.Author.Tests.{leb-true, not-false}
 use Rattle.wire.proofs.Tests.{both, neither}
 use Rattle.dots.specs.Names.{nameOk, textOk}
 use Rattle.dots.specs.declared.Answer.the-variants.{Done, BadName}
-use Rattle.controller.specs.declared.State.{State}
-use Rattle.controller.specs.declared.SetUp.{SetUp}
-use Rattle.controller.specs.Calls.{freshState, setUp}
+use Rattle.calls.specs.declared.State.{State}
+use Rattle.calls.specs.declared.SetUp.{SetUp}
+use Rattle.calls.specs.Calls.{freshState, setUp}
 use borrow.Author.Needs.{needs}
 use Rattle.controller.proofs.set_up.Statement.{statement}
 use Rattle.controller.proofs.set_up.Tie as tie

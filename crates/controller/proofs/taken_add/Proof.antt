@@ -1,5 +1,5 @@
 -- Each test is its definition; the add's own dot is offered too.
-use Rattle.controller.proofs.Answers.{kept}
+use Rattle.steps.proofs.Answers.{kept}
 use native.Mathlib.Omega.{arith}
 use Rattle.controller.proofs.TakeIn.{add-judged}
 use Prim.Native.Nat.{ℕ}

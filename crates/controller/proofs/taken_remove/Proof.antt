@@ -1,5 +1,5 @@
 -- Each test is its definition.
-use Rattle.controller.proofs.Answers.{kept}
+use Rattle.steps.proofs.Answers.{kept}
 use native.Mathlib.Omega.{arith}
 use Rattle.controller.proofs.TakeIn.{remove-judged}
 use Prim.Native.Nat.{ℕ}

@@ -1,6 +1,6 @@
 -- The used part is the front of the store, the name that of its bytes.
 use lib.ListN.{take}
-use Rattle.controller.proofs.Parts.{front-size}
+use Rattle.steps.proofs.Parts.{front-size}
 use Rattle.controller.proofs.ReadCalls.{part-of-store}
 use borrow.Author.Needs.{needs}
 use Rattle.controller.proofs.used_stretch.Statement.{statement}

@@ -1,0 +1,86 @@
+-- A call that is refused leaves what is held; one that is accepted did its work and passed every test. Assumes nothing.
+use mathlib.Core.Path.{_≡_, refl, sym, ap, _∙_}
+use mathlib.Core.Bool.{Bool, true, false, cond, false≢true}
+use mathlib.Core.List.{[], _++_}
+use lib.Dec.{eqb}
+use lib.ListN.{length}
+use lib.Seq.{take-at}
+use borrow.Author.Tests.{eqb-true, eq-eqb}
+use Rattle.wire.specs.Bytes.{Bytes}
+use Rattle.dots.specs.Answer.{numberOf, Refusals, firstOf}
+use Rattle.dots.specs.declared.Answer.{Answer}
+use Rattle.dots.specs.declared.Answer.the-variants.{Done}
+use Rattle.calls.specs.declared.State.{State}
+use Rattle.calls.specs.Calls.{Result, refused, decided, ownAddResult, ownRemoveResult, takeInResult, listResult, lookupResult, compactResult, ownAddRefusals, ownAddDone, ownRemoveRefusals, ownRemoveDone, takeInRefusals, takeInDone, listRefusals, listDone, notLooked, lookupRefusals, lookupDone, compactRefusals, compactDone}
+use Rattle.calls.specs.Sequence.{Input, addInput, removeInput, messageInput, listInput, lookupInput, compactInput, Held, resultOf, answerOf, heldAfter, step}
+
+module _ (st : State) (store out : Bytes) (rs : Refusals) (done : Result) (is-done : done .answer ≡ Done) where
+  pub decided-done : numberOf (decided st store out rs done .answer) ≡ 0 → (decided st store out rs done ≡ done) × (numberOf (firstOf rs) ≡ 0)
+  decided-done = by (firstOf rs) (eqb (numberOf (firstOf rs)) 0) refl
+    where
+      by : (a : Answer) (b : Bool) → eqb (numberOf a) 0 ≡ b → numberOf (cond b done (refused st store out a) .answer) ≡ 0
+          → (cond b done (refused st store out a) ≡ done) × (numberOf a ≡ 0)
+      by a true e h = (refl, eqb-true _ 0 e)
+      by a false e h = absurd (false≢true (sym e ∙ eq-eqb _ 0 h))
+
+  pub decided-refused : (numberOf (decided st store out rs done .answer) ≡ 0 → ⊥) → decided st store out rs done ≡ refused st store out (firstOf rs)
+  decided-refused = by (firstOf rs) (eqb (numberOf (firstOf rs)) 0)
+    where
+      by : (a : Answer) (b : Bool) → (numberOf (cond b done (refused st store out a) .answer) ≡ 0 → ⊥) → cond b done (refused st store out a) ≡ refused st store out a
+      by a true h = absurd (h (ap numberOf is-done))
+      by a false h = refl
+
+-- the same of a lookup
+pub looked-done : (st : State) (store label : Bytes) → numberOf (lookupResult st store label .answer) ≡ 0
+    → (lookupResult st store label ≡ lookupDone st store label) × (numberOf (firstOf (lookupRefusals st store label)) ≡ 0)
+unfolding lookupResult
+looked-done st store label = by (firstOf (lookupRefusals st store label)) (eqb (numberOf (firstOf (lookupRefusals st store label))) 0) refl
+  where
+    by : (a : Answer) (b : Bool) → eqb (numberOf a) 0 ≡ b → numberOf (cond b (lookupDone st store label) (notLooked a) .answer) ≡ 0
+        → (cond b (lookupDone st store label) (notLooked a) ≡ lookupDone st store label) × (numberOf a ≡ 0)
+    by a true e h = (refl, eqb-true _ 0 e)
+    by a false e h = absurd (false≢true (sym e ∙ eq-eqb _ 0 h))
+
+-- what is held is the used bytes, no more and no less
+abbrev pub Sized : Held → Type 0
+Sized h = length (h .used) ≡ h .state .used
+
+module _ (h : Held) (sized : Sized h) where
+  kept : (past out : Bytes) (a : Answer) → heldAfter (refused (h .state) (h .used ++ past) out a) ≡ h
+  kept past out a = ap (λ used. record { state = h .state; used = used }) (take-at (h .used) past (h .state .used) sized)
+
+  kept-by : (past out : Bytes) (rs : Refusals) (done : Result) → done .answer ≡ Done
+      → (numberOf (decided (h .state) (h .used ++ past) out rs done .answer) ≡ 0 → ⊥)
+      → heldAfter (decided (h .state) (h .used ++ past) out rs done) ≡ h
+  kept-by past out rs done d ref = ap heldAfter (decided-refused (h .state) (h .used ++ past) out rs done d ref) ∙ kept past out (firstOf rs)
+
+  -- "a listing, a lookup ... changes neither", accepted or not
+  pub lookup-keeps : (label past : Bytes) → step h (lookupInput label past) ≡ h
+  unfolding resultOf
+  lookup-keeps label past = kept past [] (lookupResult (h .state) (h .used ++ past) label .answer)
+
+  pub listing-keeps : (past out : Bytes) → answerOf h (listInput past out) ≡ 0 → step h (listInput past out) ≡ h
+  unfolding resultOf listResult
+  listing-keeps past out acc =
+      let store : Bytes = h .used ++ past in
+      ap heldAfter (decided-done (h .state) store out (listRefusals (h .state) store out) (listDone (h .state) store out) refl acc .0) ∙ kept past [] Done
+
+  -- "Every refusal changes no state": of each of the calls
+  pub refused-keeps : (i : Input) → (answerOf h i ≡ 0 → ⊥) → step h i ≡ h
+  unfolding resultOf ownAddResult ownRemoveResult takeInResult listResult compactResult
+  refused-keeps (addInput label context past out) ref =
+      let store : Bytes = h .used ++ past in
+      kept-by past out (ownAddRefusals (h .state) store label context out) (ownAddDone (h .state) store label context out) refl ref
+  refused-keeps (removeInput context past out) ref =
+      let store : Bytes = h .used ++ past in
+      kept-by past out (ownRemoveRefusals (h .state) store context out) (ownRemoveDone (h .state) store context out) refl ref
+  refused-keeps (messageInput message past) ref =
+      let store : Bytes = h .used ++ past in
+      kept-by past [] (takeInRefusals (h .state) store message) (takeInDone (h .state) store message) refl ref
+  refused-keeps (listInput past out) ref =
+      let store : Bytes = h .used ++ past in
+      kept-by past out (listRefusals (h .state) store out) (listDone (h .state) store out) refl ref
+  refused-keeps (lookupInput label past) ref = lookup-keeps label past
+  refused-keeps (compactInput past) ref =
+      let store : Bytes = h .used ++ past in
+      kept-by past [] (compactRefusals (h .state) store) (compactDone (h .state) store) refl ref

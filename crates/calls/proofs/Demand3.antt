@@ -1,0 +1,190 @@
+-- Demand 3, proved: the machine's theorem, read through the bytes. Assumes nothing.
+use mathlib.Core.Path.{_≡_, refl, sym, ap, _∙_, subst}
+use mathlib.Core.Logic.{_↔_, inl}
+use mathlib.Core.Bool.{Bool, true, false, cond}
+use mathlib.Core.List.{List, [], _∷_, _++_, map, flatMap, cons≢nil, List·Memᴰ·head, List·Memᴰ·not-nil, Memᴰ·map, Memᴰ·of-map}
+use lib.Dec.{T}
+use lib.ListN.{length}
+use Rattle.wire.specs.Lists.{_∈_, SameMembers, keep, insertAll}
+use Rattle.wire.specs.Bytes.{Bytes}
+use Rattle.wire.proofs.Lists.{member-append, flatMap-mono}
+use Rattle.dots.specs.declared.Actor.{Actor}
+use Rattle.dots.specs.Names.{Name}
+use Rattle.dots.specs.Dots.{actorOf}
+use Rattle.dots.specs.Entries.{Entry, lineLabels}
+use Rattle.dots.specs.Message.{Message, pairsOf}
+use Rattle.messages.specs.Read.{messageOf}
+use Rattle.store.specs.Cut.{storeBytes}
+use Rattle.store.specs.Listing.{listingBytes}
+use Rattle.replica.specs.Machine.{compact, effect, listing, found, messagesOf as machineMessages}
+use Rattle.replica.specs.Rule.{History, noHistory, noted, historyFrom, pairs, livePairs, ruleListing, OneLabelPerDot}
+use Rattle.replica.specs.Demand3.{run as runMachine, events as eventsMachine, traffic as trafficMachine, Follows as MachineFollows, Agree as MachineAgree}
+use Rattle.replica.proofs.RowClock.{controllers-follow, controllers-agree}
+use Rattle.calls.specs.State.{clockModel, nameOf, view}
+use Rattle.calls.specs.Calls.{Result, Looked, listRefusals, listDone, listResult, lookupResult}
+use Rattle.calls.specs.Sequence.{Input, addInput, removeInput, messageInput, listInput, lookupInput, compactInput, Held, started, resultOf, accepts, output, heldAfter, step, callOf, events, messageBytesOf, traffic}
+use Rattle.calls.specs.Demand3.{Accepted, Follows, Agree, Controlled, messagesOf, trafficOf, endOf, Demand3}
+use Rattle.calls.proofs.Reading.{used-after, viewOf}
+use Rattle.calls.proofs.Decided.{decided-done, looked-done, Sized}
+use Rattle.calls.proofs.Accepted.{compact-accepted}
+use Rattle.calls.proofs.Instance.{put-out, same-view, is-machine, SizedHeld, stepped, controller}
+use Rattle.calls.proofs.Sequences.{run-same, events-same, traffic-same, run-name, traffic-named, startOf, start-view, start-name}
+
+-- ---- what accepted listings, lookups and compactions show
+
+module _ (h : Held) (sized : Sized h) where
+  listed-is : (past out : Bytes) → Accepted h (listInput past out)
+      → (output (resultOf h (listInput past out)) ≡ listingBytes (listing clockModel (viewOf h))) × (resultOf h (listInput past out) .labels ≡ length (listing clockModel (viewOf h)))
+  unfolding resultOf listResult
+  listed-is past out acc =
+      let store : Bytes = h .used ++ past in
+      let d = decided-done (h .state) store out (listRefusals (h .state) store out) (listDone (h .state) store out) refl acc .0 in
+      let lines : listing clockModel (view (h .state) store) ≡ listing clockModel (viewOf h) = ap (listing clockModel) (same-view h sized past) in
+      (ap output d ∙ put-out (listingBytes (listing clockModel (view (h .state) store))) out ∙ ap listingBytes lines, ap (λ (r : Result). r .labels) d ∙ ap length lines)
+
+  looked-is : (label past : Bytes) → Accepted h (lookupInput label past) → lookupResult (h .state) (h .used ++ past) label .listed ≡ found clockModel (viewOf h) label
+  unfolding resultOf
+  looked-is label past acc = ap (λ (r : Looked). r .listed) (looked-done (h .state) (h .used ++ past) label acc .0) ∙ ap (λ m. found clockModel m label) (same-view h sized past)
+
+  -- the used bytes after a compaction are those of the keys left
+  compacted-used : (past : Bytes) → Accepted h (compactInput past) → step h (compactInput past) .used ≡ storeBytes (nameOf (h .state)) (viewOf (step h (compactInput past)) .keys)
+  unfolding resultOf callOf
+  compacted-used past acc =
+      let store : Bytes = h .used ++ past in
+      let w = compact-accepted (h .state) store acc in
+      let left = ap (λ m. effect clockModel m compact) (same-view h sized past) ∙ sym (is-machine h sized (compactInput past) acc .does) in
+      ap (λ r. heldAfter r .used) (w .result-is) ∙ used-after (h .state) store (effect clockModel (view (h .state) store) compact)
+      ∙ ap (λ m. storeBytes (nameOf (h .state)) (m .keys)) left
+
+-- ---- through the bytes
+
+follows-held : (name : Name) (ms : List Message) (x : SizedHeld) → nameOf (x .0 .state) ≡ name → MachineFollows clockModel controller x ms → Follows name ms (x .0)
+unfolding view callOf
+follows-held name ms x n f = record {
+  rule-means = f .rule-means;
+  listing-is = λ past out acc. listed-is (x .0) (x .1) past out acc .0 ∙ ap listingBytes (f .listing-is);
+  labels-are = λ past out acc. listed-is (x .0) (x .1) past out acc .1 ∙ ap length (f .listing-is);
+  lookup-is = λ label past acc. subst (λ b. T b ↔ (label ∈ lineLabels (ruleListing ms))) (sym (looked-is (x .0) (x .1) label past acc)) (f .lookup-is label);
+  clock-is = f .clock-is;
+  compaction-is = λ past acc.
+      compacted-used (x .0) (x .1) past acc
+      ∙ ap (λ m. storeBytes m (viewOf (step (x .0) (compactInput past)) .keys)) n
+      ∙ ap (storeBytes name) (f .compaction-is (compactInput past) (record { call-is = refl; done = acc }));
+}
+
+-- of no entries, a set's keys are those of any other
+keys-of : (n n′ : Name) (es : List Entry) → ((e : Entry) → e ∈ es → n ≡ n′) → storeBytes n es ≡ storeBytes n′ es
+unfolding storeBytes
+keys-of n n′ [] h = refl
+keys-of n n′ (e ∷ es) h = rw (h e (List·Memᴰ·head refl))
+
+agree-held : (x y : SizedHeld) → ((past : Bytes) → Accepted (x .0) (compactInput past) → (e : Entry) → e ∈ viewOf (step (x .0) (compactInput past)) .keys → nameOf (x .0 .state) ≡ nameOf (y .0 .state))
+    → MachineAgree clockModel controller x y → Agree (x .0) (y .0)
+unfolding view callOf
+agree-held x y n a = record {
+  same-listing = λ past out past′ out′ acc acc′.
+      let p = listed-is (x .0) (x .1) past out acc in
+      let q = listed-is (y .0) (y .1) past′ out′ acc′ in
+      (p .0 ∙ ap listingBytes (a .same-listing) ∙ sym (q .0), p .1 ∙ ap length (a .same-listing) ∙ sym (q .1));
+  same-clock = λ past past′ acc acc′. ap (λ w. record { words = w }) (a .same-clock (compactInput past) (compactInput past′) (record { call-is = refl; done = acc }) (record { call-is = refl; done = acc′ }));
+  same-store = λ past past′ acc acc′. (sizes past past′ (bytes past past′ acc acc′), bytes past past′ acc acc′);
+}
+  where
+    bytes : (past past′ : Bytes) → Accepted (x .0) (compactInput past) → Accepted (y .0) (compactInput past′) → step (x .0) (compactInput past) .used ≡ step (y .0) (compactInput past′) .used
+    bytes past past′ acc acc′ =
+        compacted-used (x .0) (x .1) past acc
+        ∙ keys-of (nameOf (x .0 .state)) (nameOf (y .0 .state)) (viewOf (step (x .0) (compactInput past)) .keys) (n past acc)
+        ∙ ap (storeBytes (nameOf (y .0 .state))) (a .same-keys (compactInput past) (compactInput past′) (record { call-is = refl; done = acc }) (record { call-is = refl; done = acc′ }))
+        ∙ sym (compacted-used (y .0) (y .1) past′ acc′)
+
+    sizes : (past past′ : Bytes) → step (x .0) (compactInput past) .used ≡ step (y .0) (compactInput past′) .used → step (x .0) (compactInput past) .state .used ≡ step (y .0) (compactInput past′) .state .used
+    sizes past past′ e = sym (stepped x (compactInput past) .1) ∙ ap length e ∙ stepped y (compactInput past′) .1
+
+-- ---- two that exchanged the same messages are of one set, or hold nothing
+
+append-none : {A : Type 0} (xs ys : List A) → xs ++ ys ≡ [] → (xs ≡ []) × (ys ≡ [])
+append-none [] ys e = (refl, e)
+append-none (x ∷ xs) ys e = absurd (cons≢nil e)
+
+-- where no message was exchanged, the rule has none
+nothing-noted : (a : Actor) (n : History) (h : Held) (i : Input) (b : Bool) → cond b (messageBytesOf h i) [] ≡ [] → cond b (noted a n (callOf i)) n .messages ≡ n .messages
+unfolding messageBytesOf callOf machineMessages
+nothing-noted a n h i false e = refl
+nothing-noted a n h (addInput label context past out) true e = absurd (cons≢nil e)
+nothing-noted a n h (removeInput context past out) true e = absurd (cons≢nil e)
+nothing-noted a n h (messageInput message past) true e = absurd (cons≢nil e)
+nothing-noted a n h (listInput past out) true e = refl
+nothing-noted a n h (lookupInput label past) true e = refl
+nothing-noted a n h (compactInput past) true e = refl
+
+no-traffic : (a : Actor) (n : History) (h : Held) (is : List Input) → traffic h is ≡ [] → historyFrom a n (events h is) .messages ≡ n .messages
+unfolding traffic events historyFrom
+no-traffic a n h [] e = refl
+no-traffic a n h (i ∷ is) e =
+    let parts = append-none (cond (accepts h i) (messageBytesOf h i) []) (traffic (step h i) is) e in
+    no-traffic a (cond (accepts h i) (noted a n (callOf i)) n) (step h i) is (parts .1) ∙ nothing-noted a n h i (accepts h i) (parts .0)
+
+no-pairs : (ms : List Message) (e : Entry) → ms ≡ [] → e ∈ livePairs ms → ⊥
+unfolding keep insertAll flatMap
+no-pairs ms e none k = let m : e ∈ livePairs [] = subst (λ ns. e ∈ livePairs ns) none k in List·Memᴰ·not-nil m
+
+one-set : (c d : Controlled) → SameMembers (trafficOf c) (trafficOf d) → (e : Entry) → e ∈ livePairs (messagesOf c) → c .name ≡ d .name
+one-set c d same e k = by (trafficOf c) refl
+  where
+    by : (ss : List Bytes) → trafficOf c ≡ ss → c .name ≡ d .name
+    by [] none = absurd (no-pairs (messagesOf c) e (no-traffic (actorOf (c .actor)) noHistory (started (c .actor) (c .name)) (c .calls) none) k)
+    by (s ∷ ss) some =
+        let here : s ∈ trafficOf c = subst (λ ts. s ∈ ts) (sym some) (List·Memᴰ·head refl) in
+        sym (start-name c) ∙ sym (traffic-named (startOf c) (c .calls) s here) ∙ traffic-named (startOf d) (d .calls) s (same s .0 here) ∙ start-name d
+
+same-decoded : (xs ys : List Bytes) → SameMembers xs ys → SameMembers (map messageOf xs) (map messageOf ys)
+same-decoded xs ys same m = (over xs ys (λ s. same s .0), over ys xs (λ s. same s .1))
+  where
+    over : (us vs : List Bytes) → ((s : Bytes) → s ∈ us → s ∈ vs) → m ∈ map messageOf us → m ∈ map messageOf vs
+    over us vs to k = let r = Memᴰ·of-map messageOf us k in subst (λ z. z ∈ map messageOf vs) (r .2) (Memᴰ·map messageOf (to (r .0) (r .1)))
+
+-- ---- the two claims
+
+module _ (c : Controlled) where
+  reached : SizedHeld
+  reached = runMachine clockModel controller (startOf c) (c .calls)
+
+  reached-is : reached .0 ≡ endOf c
+  unfolding reached
+  reached-is = run-same (startOf c) (c .calls)
+
+  reached-name : nameOf (reached .0 .state) ≡ c .name
+  reached-name = ap (λ h. nameOf (h .state)) reached-is ∙ run-name (started (c .actor) (c .name)) (c .calls) ∙ start-name c
+
+  accepted-is : historyFrom (actorOf (c .actor)) noHistory (eventsMachine clockModel controller (startOf c) (c .calls)) .messages ≡ messagesOf c
+  accepted-is = ap (λ es. historyFrom (actorOf (c .actor)) noHistory es .messages) (events-same (startOf c) (c .calls))
+
+  machine-follows : OneLabelPerDot (pairs (messagesOf c)) → MachineFollows clockModel controller reached (messagesOf c)
+  unfolding reached
+  machine-follows single =
+      subst (λ ms. MachineFollows clockModel controller reached ms) accepted-is
+      (controllers-follow controller (actorOf (c .actor)) (startOf c) (start-view c) (c .calls) (subst (λ ms. OneLabelPerDot (pairs ms)) (sym accepted-is) single))
+
+demand3-follows : (c : Controlled) → OneLabelPerDot (pairs (messagesOf c)) → Follows (c .name) (messagesOf c) (endOf c)
+demand3-follows c single = subst (λ h. Follows (c .name) (messagesOf c) h) (reached-is c) (follows-held (c .name) (messagesOf c) (reached c) (reached-name c) (machine-follows c single))
+
+-- of the first controller alone
+front-single : (ms ms′ : List Message) → OneLabelPerDot (pairs (ms ++ ms′)) → OneLabelPerDot (pairs ms)
+front-single ms ms′ single d l l′ p q = single d l l′ (flatMap-mono pairsOf (λ m k. member-append .1 (inl k)) _ p) (flatMap-mono pairsOf (λ m k. member-append .1 (inl k)) _ q)
+
+demand3-agree : (c d : Controlled) → SameMembers (trafficOf c) (trafficOf d) → OneLabelPerDot (pairs (messagesOf c ++ messagesOf d)) → Agree (endOf c) (endOf d)
+unfolding reached callOf
+demand3-agree c d same single =
+    let traffics : SameMembers (trafficMachine clockModel controller (startOf c) (c .calls)) (trafficMachine clockModel controller (startOf d) (d .calls)) =
+    rw (traffic-same (startOf c) (c .calls), traffic-same (startOf d) (d .calls)) (same-decoded (trafficOf c) (trafficOf d) same) in
+    let singles : OneLabelPerDot (pairs (historyFrom (actorOf (c .actor)) noHistory (eventsMachine clockModel controller (startOf c) (c .calls)) .messages
+    ++ historyFrom (actorOf (d .actor)) noHistory (eventsMachine clockModel controller (startOf d) (d .calls)) .messages)) =
+    rw (accepted-is c, accepted-is d) single in
+    let a = controllers-agree controller (actorOf (c .actor)) (actorOf (d .actor)) (startOf c) (startOf d) (start-view c) (start-view d) (c .calls) (d .calls) traffics singles in
+    let f = machine-follows c (front-single (messagesOf c) (messagesOf d) single) in
+    let names : (past : Bytes) → Accepted (reached c .0) (compactInput past) → (e : Entry) → e ∈ viewOf (step (reached c .0) (compactInput past)) .keys → nameOf (reached c .0 .state) ≡ nameOf (reached d .0 .state) =
+    λ past acc e k. reached-name c ∙ one-set c d same e (subst (λ es. e ∈ es) (f .compaction-is (compactInput past) (record { call-is = refl; done = acc })) k) ∙ sym (reached-name d) in
+    subst (λ h. Agree h (endOf d)) (reached-is c) (subst (λ k. Agree (reached c .0) k) (reached-is d) (agree-held (reached c) (reached d) names a))
+
+pub demand-3 : Demand3
+demand-3 = record { follows = demand3-follows; agree = demand3-agree }

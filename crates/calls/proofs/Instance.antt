@@ -1,0 +1,143 @@
+-- The calls on bytes are a controller of the machine over the clock of 16 rows. Assumes nothing.
+use mathlib.Core.Path.{_≡_, refl, sym, ap, _∙_, subst}
+use mathlib.Core.Bool.{Bool, true, false}
+use mathlib.Core.List.{List, [], _∷_, _++_, map, List·Memᴰ·not-nil, List·Memᴰ·eq-of-singleton}
+use lib.Dec.{T, eqb}
+use lib.ListN.{length, take, drop}
+use lib.Seq.{take-append-seam}
+use borrow.Author.Tests.{eqb-true, eqb-false}
+use Rattle.wire.specs.Lists.{_∈_}
+use Rattle.wire.specs.Bytes.{Bytes}
+use Rattle.dots.specs.Message.{Message, add}
+use Rattle.dots.specs.Wire.{dotsOf}
+use Rattle.messages.specs.Read.{nameOf as messageName, messageOf}
+use Rattle.messages.proofs.RoundTrip.{read-written}
+use Rattle.replica.specs.Machine.{Controller, nextDot, effect, exchanged, allowed, messagesOf, compact, compacted}
+use Rattle.calls.specs.State.{clockModel, nameOf, view}
+use Rattle.calls.specs.Calls.{performed, addWritten, addDot, removeWritten}
+use Rattle.calls.specs.Sequence.{Input, addInput, removeInput, messageInput, listInput, lookupInput, compactInput, Held, resultOf, answerOf, heldAfter, step, output, callOf, messageBytesOf}
+use Rattle.calls.proofs.Reading.{view-past, viewOf, performed-sized, performed-view}
+use Rattle.calls.proofs.Decided.{Sized, refused-keeps, listing-keeps, lookup-keeps}
+use Rattle.calls.proofs.Validity.{compacted-rules}
+use Rattle.calls.proofs.Clauses.{view-rules}
+use Rattle.calls.proofs.Applied.{applied-view}
+use Rattle.calls.proofs.Accepted.{add-accepted, remove-accepted, compact-accepted}
+use Rattle.calls.proofs.TakenIn.{take-in-accepted}
+
+-- the messages that a call takes in or writes, as the machine has them
+abbrev pub messages : Held → Input → List Message
+messages h i = map messageOf (messageBytesOf h i)
+
+pub record IsMachine (h : Held) (i : Input) : Type 0 where
+  pub does : viewOf (step h i) ≡ effect clockModel (viewOf h) (callOf i)
+  pub sized-after : Sized (step h i)
+  pub exchanges : messages h i ≡ exchanged clockModel (viewOf h) (callOf i)
+  pub guarded : T (allowed clockModel (viewOf h) (callOf i))
+  -- its messages are of this set
+  pub named : (s : Bytes) → s ∈ messageBytesOf h i → messageName s ≡ nameOf (h .state)
+
+-- what is put out is the message
+pub put-out : (message out : Bytes) → take (length message) (message ++ drop (length message) out) ≡ message
+put-out message out = take-append-seam message (drop (length message) out)
+
+module _ (h : Held) (sized : Sized h) (past : Bytes) where
+  pub same-view : view (h .state) (h .used ++ past) ≡ viewOf h
+  same-view = view-past (h .state) (h .used) past sized
+
+  -- a call that did its work
+  works : (i : Input) (out message : Bytes) → resultOf h i ≡ performed (h .state) (h .used ++ past) out (callOf i) message
+      → viewOf (heldAfter (performed (h .state) (h .used ++ past) out (callOf i) message)) ≡ effect clockModel (view (h .state) (h .used ++ past)) (callOf i)
+      → T (allowed clockModel (view (h .state) (h .used ++ past)) (callOf i))
+      → messages h i ≡ exchanged clockModel (viewOf h) (callOf i)
+      → ((s : Bytes) → s ∈ messageBytesOf h i → messageName s ≡ nameOf (h .state))
+      → IsMachine h i
+  works i out message done viewed allows exchanges named = record {
+    does = ap (λ r. viewOf (heldAfter r)) done ∙ viewed ∙ ap (λ m. effect clockModel m (callOf i)) same-view;
+    sized-after = subst (λ r. Sized (heldAfter r)) (sym done) (performed-sized (h .state) (h .used ++ past) out (callOf i) message);
+    exchanges = exchanges;
+    guarded = subst (λ m. T (allowed clockModel m (callOf i))) same-view allows;
+    named = named;
+  }
+
+  add-is : (label context out : Bytes) → answerOf h (addInput label context past out) ≡ 0 → IsMachine h (addInput label context past out)
+  unfolding resultOf callOf messageBytesOf messagesOf
+  add-is label context out acc =
+      let store : Bytes = h .used ++ past in
+      let w = add-accepted (h .state) store label context out acc in
+      let message : Bytes = addWritten (h .state) store label context out in
+      let sent : Message = add label (addDot (h .state) store label context out) (dotsOf context) in
+      let read = read-written (nameOf (h .state)) sent (w .message-ok) in
+      let put = ap output (w .result-is) ∙ put-out message out in
+      works (addInput label context past out) out message (w .result-is) (applied-view (h .state) store _ (w .applies) out message) (w .applies .allows)
+      (ap (λ s. messageOf s ∷ []) put ∙ ap (λ m. m ∷ []) (read .2) ∙ ap (λ v. add label (nextDot clockModel v) (dotsOf context) ∷ []) same-view)
+      (λ s k. ap messageName (List·Memᴰ·eq-of-singleton k ∙ put) ∙ read .1)
+
+  remove-is : (context out : Bytes) → answerOf h (removeInput context past out) ≡ 0 → IsMachine h (removeInput context past out)
+  unfolding resultOf callOf messageBytesOf messagesOf
+  remove-is context out acc =
+      let store : Bytes = h .used ++ past in
+      let w = remove-accepted (h .state) store context out acc in
+      let message : Bytes = removeWritten (h .state) store context out in
+      let read = read-written (nameOf (h .state)) _ (w .message-ok) in
+      let put = ap output (w .result-is) ∙ put-out message out in
+      works (removeInput context past out) out message (w .result-is) (applied-view (h .state) store _ (w .applies) out message) (w .applies .allows)
+      (ap (λ s. messageOf s ∷ []) put ∙ ap (λ m. m ∷ []) (read .2))
+      (λ s k. ap messageName (List·Memᴰ·eq-of-singleton k ∙ put) ∙ read .1)
+
+  take-in-is : (message : Bytes) → answerOf h (messageInput message past) ≡ 0 → IsMachine h (messageInput message past)
+  unfolding resultOf callOf messageBytesOf messagesOf
+  take-in-is message acc =
+      let store : Bytes = h .used ++ past in
+      let w = take-in-accepted (h .state) store message acc in
+      works (messageInput message past) [] [] (w .result-is) (applied-view (h .state) store _ (w .applies) [] []) (w .applies .allows) refl
+      (λ s k. ap messageName (List·Memᴰ·eq-of-singleton k) ∙ w .named)
+
+  compact-is : answerOf h (compactInput past) ≡ 0 → IsMachine h (compactInput past)
+  unfolding resultOf callOf messageBytesOf messagesOf effect allowed compacted view
+  compact-is acc =
+      let store : Bytes = h .used ++ past in
+      let w = compact-accepted (h .state) store acc in
+      let rules = compacted-rules (view (h .state) store) (view-rules (h .state) store (w .whole)) in
+      works (compactInput past) [] [] (w .result-is) (performed-view (h .state) store [] compact [] refl rules) tt refl (λ s k. absurd (List·Memᴰ·not-nil k))
+
+  -- a call that leaves all as it was, and exchanges nothing
+  idle : (i : Input) → step h i ≡ h → viewOf h ≡ effect clockModel (viewOf h) (callOf i)
+      → messages h i ≡ exchanged clockModel (viewOf h) (callOf i) → T (allowed clockModel (viewOf h) (callOf i)) → ((s : Bytes) → s ∈ messageBytesOf h i → ⊥) → IsMachine h i
+  idle i same e x a none = record { does = ap viewOf same ∙ e; sized-after = subst Sized (sym same) sized; exchanges = x; guarded = a; named = λ s k. absurd (none s k) }
+
+pub is-machine : (h : Held) → Sized h → (i : Input) → answerOf h i ≡ 0 → IsMachine h i
+unfolding callOf effect messageBytesOf messagesOf allowed
+is-machine h sized (addInput label context past out) acc = add-is h sized past label context out acc
+is-machine h sized (removeInput context past out) acc = remove-is h sized past context out acc
+is-machine h sized (messageInput message past) acc = take-in-is h sized past message acc
+is-machine h sized (listInput past out) acc = idle h sized past (listInput past out) (listing-keeps h sized past out acc) refl refl tt (λ s k. List·Memᴰ·not-nil k)
+is-machine h sized (lookupInput label past) acc = idle h sized past (lookupInput label past) (lookup-keeps h sized label past) refl refl tt (λ s k. List·Memᴰ·not-nil k)
+is-machine h sized (compactInput past) acc = compact-is h sized past acc
+
+pub step-sized : (h : Held) → Sized h → (i : Input) → Sized (step h i)
+step-sized h sized i = by (eqb (answerOf h i) 0) refl
+  where
+    by : (b : Bool) → eqb (answerOf h i) 0 ≡ b → Sized (step h i)
+    by true e = is-machine h sized i (eqb-true _ 0 e) .sized-after
+    by false e = subst Sized (sym (refused-keeps h sized i (eqb-false _ 0 e))) sized
+
+abbrev pub SizedHeld : Type 0
+SizedHeld = (h : Held) × Sized h
+
+abbrev pub stepped : SizedHeld → Input → SizedHeld
+stepped x i = (step (x .0) i, step-sized (x .0) (x .1) i)
+
+abbrev pub controller : Controller clockModel
+controller = record {
+  Held = SizedHeld;
+  Input = Input;
+  answer = λ x i. answerOf (x .0) i;
+  step = stepped;
+  message = λ x i. messages (x .0) i;
+  view = λ x. viewOf (x .0);
+  callOf = callOf;
+  does = λ x i acc. is-machine (x .0) (x .1) i acc .does;
+  exchanges = λ x i acc. is-machine (x .0) (x .1) i acc .exchanges;
+  refuses = λ x i ref. ap viewOf (refused-keeps (x .0) (x .1) i ref);
+  guarded = λ x i acc. is-machine (x .0) (x .1) i acc .guarded;
+}

@@ -1,0 +1,18 @@
+-- Validity: rules of dots and entries that effects keep. Decided: refused calls, accepted calls. Reading: what is written back is read again.
+-- Clauses: what undamaged says. Guard, Applied, Accepted, TakenIn: what a call's acceptance says. Instance: the calls as a controller of the machine.
+-- Sequences: calls in a row. Demand3: demand 3. OwnRow, Whole, Undamaged: an accepted call leaves an undamaged state. Cases: document 01's cases.
+pub mod Validity
+pub mod Decided
+pub mod Reading
+pub mod Clauses
+pub mod Guard
+pub mod Applied
+pub mod Accepted
+pub mod TakenIn
+pub mod Instance
+pub mod Sequences
+pub mod Demand3
+pub mod OwnRow
+pub mod Whole
+pub mod Undamaged
+pub mod Cases

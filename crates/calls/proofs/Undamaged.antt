@@ -1,0 +1,208 @@
+-- An accepted call leaves an undamaged state; so every state that calls reach from an accepted set-up is undamaged. Assumes nothing.
+use Prim.Native.Nat.{ℕ, _+_, _-_, _*_, _≤_}
+use mathlib.Core.Path.{_≡_, refl, sym, ap, _∙_, subst}
+use mathlib.Core.Bool.{Bool, true, false, not}
+use mathlib.Core.List.{List, [], _∷_, _++_}
+use native.Mathlib.Omega.{arith}
+use lib.Dec.{leb, eqb}
+use lib.ListN.{length, take, replicate, length-append, length-take}
+use lib.Seq.{length-take-le, take-at, take-append-seam, drop-append-seam}
+use borrow.Author.Needs.{needs}
+use borrow.Author.Tests.{ltb-false, leb-true, le-leb, eqb-true, eqb-false, not-false}
+use Rattle.wire.specs.Lists.{keep, consIf, any, all, member, ascends, insertAll}
+use Rattle.wire.specs.Bytes.{Bytes}
+use Rattle.wire.proofs.Tests.{both, neither-left, neither-right, neither}
+use Rattle.dots.specs.declared.Dot.{Dot}
+use Rattle.dots.specs.Answer.{numberOf}
+use Rattle.dots.specs.Names.{Name, nameMost, nameOk, textOk}
+use Rattle.dots.specs.Dots.{actorOk, compareDots, ascendingDots}
+use Rattle.dots.specs.Wire.{dotsBytes, dotsAt, dotsOf}
+use Rattle.dots.specs.Entries.{Entry, compareEntries}
+use Rattle.dots.proofs.Table.{none-holds}
+use Rattle.dots.proofs.Loops.{length-dotsOf}
+use Rattle.clock.specs.Row.{windowWidth}
+use Rattle.clock.specs.Clock.{clockOk}
+use Rattle.clock.proofs.Clocks.{row-empty, zero-formed, rows-tested}
+use Rattle.keys.specs.Entry.{entryKey}
+use Rattle.store.specs.Cut.{storeBytes, keysAfter}
+use Rattle.store.specs.Valid.{storeMost, storeOk, usedOk}
+use Rattle.replica.specs.Machine.{Call, live, droppedDots, apply, compact, compacted, effect}
+use Rattle.calls.specs.declared.State.{State}
+use Rattle.calls.specs.State.{clockModel, Machine, nameOf, tombstoneDots, entries, view}
+use Rattle.calls.specs.Damage.{tombstoneMost, tombstoneOk, stateNameOk, damaged}
+use Rattle.calls.specs.Effect.{keysPart, stateOf}
+use Rattle.calls.specs.Refusals.{badActor, badName, storeFull}
+use Rattle.calls.specs.Calls.{setUp, freshState, setUpRefusals, Result, performed, addWritten, removeWritten, listRefusals, listDone, listResult, lookupRefusals}
+use Rattle.calls.specs.Sequence.{Input, addInput, removeInput, messageInput, listInput, lookupInput, compactInput, Held, started, resultOf, answerOf, step, run}
+use Rattle.calls.specs.Demand3.{Accepted, Controlled, endOf}
+use Rattle.calls.proofs.Decided.{decided-done, looked-done, Sized, refused-keeps}
+use Rattle.calls.proofs.Clauses.{Undamaged, undamaged, not-damaged, used-fits, entries-of}
+use Rattle.calls.proofs.Applied.{Applies, applied-actor}
+use Rattle.calls.proofs.Accepted.{add-accepted, remove-accepted, compact-accepted}
+use Rattle.calls.proofs.TakenIn.{take-in-accepted}
+use Rattle.calls.proofs.Instance.{step-sized}
+use Rattle.calls.proofs.Sequences.{fresh-state, start-sized}
+use Rattle.calls.proofs.Whole.{Whole, view-whole, apply-whole, compacted-whole, insert-size, keep-size, all-zero, whole-undamaged}
+
+-- ---- a call's work
+
+-- what a call leaves: a state that is not damaged, whose clock has its 32 words
+pub record Left (r : Result) : Type 0 where
+  pub whole : Undamaged (r .state) (r .store)
+  pub words : length (r .state .clock .words) ≡ 32
+
+keep-length : {A : Type 0} (p : A → Bool) (xs : List A) → length (keep p xs) ≤ length xs
+unfolding keep
+keep-length p [] = omega arith
+keep-length {A} p (x ∷ xs) = by (p x) (keep-length p xs)
+  where
+    by : (b : Bool) → length (keep p xs) ≤ length xs → length (consIf b x (keep p xs)) ≤ length (x ∷ xs)
+    by true ih = omega arith
+    by false ih = omega arith
+
+module _ (st : State) (store : Bytes) (u : Undamaged st store) where
+  -- the keys of an undamaged store take the used length
+  keys-size : length (storeBytes (nameOf st) (entries st store)) ≡ st .used
+  keys-size = ap length (entries-of st store u .written) ∙ length-take-le (st .used) store (used-fits st store u)
+
+  insert-fits : (fresh : List Entry) → length fresh ≤ 1 → storeFull st store fresh ≡ false → length (storeBytes (nameOf st) (insertAll compareEntries fresh (entries st store))) ≤ length store
+  unfolding insertAll any
+  insert-fits [] few room = omega (arith, keys-size, used-fits st store u)
+  insert-fits (e ∷ []) few room =
+      let fits = ltb-false (length store) (st .used + length (entryKey (nameOf st) e)) (search neither) in
+      omega (arith, insert-size (nameOf st) e (entries st store), keys-size)
+  insert-fits (e ∷ f ∷ es) few room = absurd (omega arith)
+
+  tombstone-short : length (tombstoneDots st) ≤ tombstoneMost
+  unfolding tombstoneOk
+  tombstone-short =
+      let t = u .tombstone in
+      let most : st .tombstone .count ≤ tombstoneMost = leb-true _ _ (search both) in
+      omega (arith, length-dotsOf (take (st .tombstone .count * 9) (st .tombstone .bytes)), length-take (st .tombstone .count * 9) (st .tombstone .bytes))
+
+  module _ (words : length (st .clock .words) ≡ 32) (out message : Bytes) where
+    applied-leaves : (call : Call) → Applies st store call → Left (performed st store out call message)
+    unfolding view apply stateOf
+    applied-leaves call a =
+        let m : Machine = view st store in
+        let after : Machine = effect clockModel m call in
+        let whole : Whole after = subst Whole (sym (a .effect-is)) (apply-whole m (view-whole st store u words) (a .fresh) (a .context) (a .fresh-ok) (a .context-ok) (a .fits) (a .own-next)) in
+        let keys : after .keys ≡ insertAll compareEntries (a .fresh) (entries st store) = ap (λ (s : Machine). s .keys) (a .effect-is) in
+        let room : length (keysPart st after) ≤ length store = rw keys (insert-fits (a .fresh) (a .at-most-one) (a .store-has-room)) in
+        record {
+          whole = whole-undamaged st store u after whole (applied-actor st store call a) (ltb-false _ _ (a .tombstone-has-room)) room;
+          words = whole .formed .size;
+        }
+
+    compacted-leaves : Left (performed st store out compact message)
+    unfolding effect compacted view stateOf
+    compacted-leaves =
+        let m : Machine = view st store in
+        let fewer = keep-length (λ (d : Dot). not (member compareDots d (droppedDots clockModel m))) (tombstoneDots st) in
+        record {
+          whole = whole-undamaged st store u (compacted clockModel m) (compacted-whole m (view-whole st store u words)) refl (omega (arith, tombstone-short)) (omega (arith, keep-size (nameOf st) (live clockModel m) (entries st store), keys-size, used-fits st store u));
+          words = words;
+        }
+
+-- ---- every call
+
+accepted-leaves : (h : Held) (i : Input) → length (h .state .clock .words) ≡ 32 → Accepted h i → Left (resultOf h i)
+unfolding resultOf listResult
+accepted-leaves h (addInput label context past out) words acc =
+    let store : Bytes = h .used ++ past in
+    let w = add-accepted (h .state) store label context out acc in
+    subst Left (sym (w .result-is)) (applied-leaves (h .state) store (w .applies .whole) words out (addWritten (h .state) store label context out) _ (w .applies))
+accepted-leaves h (removeInput context past out) words acc =
+    let store : Bytes = h .used ++ past in
+    let w = remove-accepted (h .state) store context out acc in
+    subst Left (sym (w .result-is)) (applied-leaves (h .state) store (w .applies .whole) words out (removeWritten (h .state) store context out) _ (w .applies))
+accepted-leaves h (messageInput message past) words acc =
+    let w = take-in-accepted (h .state) (h .used ++ past) message acc in
+    subst Left (sym (w .result-is)) (applied-leaves (h .state) (h .used ++ past) (w .applies .whole) words [] [] _ (w .applies))
+accepted-leaves h (listInput past out) words acc =
+    let store : Bytes = h .used ++ past in
+    let d = decided-done (h .state) store out (listRefusals (h .state) store out) (listDone (h .state) store out) refl acc in
+    let passed = none-holds (listRefusals (h .state) store out) (search needs) (d .1) in
+    subst Left (sym (d .0)) (record { whole = undamaged (h .state) store (passed .0); words = words })
+accepted-leaves h (lookupInput label past) words acc =
+    let store : Bytes = h .used ++ past in
+    let passed = none-holds (lookupRefusals (h .state) store label) (search needs) (looked-done (h .state) store label acc .1) in
+    record { whole = undamaged (h .state) store (passed .0); words = words }
+accepted-leaves h (compactInput past) words acc =
+    let w = compact-accepted (h .state) (h .used ++ past) acc in
+    subst Left (sym (w .result-is)) (compacted-leaves (h .state) (h .used ++ past) (w .whole) words [] [])
+
+-- of any state whose clock has 32 words, and any store
+pub accepted-undamaged : (h : Held) (i : Input) → length (h .state .clock .words) ≡ 32 → Accepted h i → damaged (resultOf h i .state) (resultOf h i .store) ≡ false
+accepted-undamaged h i words acc = not-damaged _ _ (accepted-leaves h i words acc .whole)
+
+-- ---- every state reached
+
+-- the used part does not hang on the buffer past it
+other-buffer : (st : State) (store past : Bytes) → Undamaged st store → length (take (st .used) store ++ past) ≤ storeMost → Undamaged st (take (st .used) store ++ past)
+unfolding storeOk
+other-buffer st store past u short =
+    let used : Bytes = take (st .used) store in
+    let size : length used ≡ st .used = length-take-le (st .used) store (used-fits st store u) in
+    let fits : st .used ≤ length (used ++ past) = omega (arith, length-append used past) in
+    let s = u .stored in
+    record {
+      actor = u .actor;
+      name = u .name;
+      clock = u .clock;
+      tombstone = u .tombstone;
+      stored = rw (le-leb (length (used ++ past)) storeMost short, le-leb (st .used) (length (used ++ past)) fits, take-at used past (st .used) size) (search both);
+    }
+
+-- what is held is undamaged in any buffer that is not too long
+pub record Sound (h : Held) : Type 0 where
+  pub sized : Sized h
+  pub words : length (h .state .clock .words) ≡ 32
+  pub whole : (past : Bytes) → length (h .used ++ past) ≤ storeMost → Undamaged (h .state) (h .used ++ past)
+
+step-sound : (h : Held) → Sound h → (i : Input) → Sound (step h i)
+step-sound h sound i = by (eqb (answerOf h i) 0) refl
+  where
+    by : (b : Bool) → eqb (answerOf h i) 0 ≡ b → Sound (step h i)
+    by true e =
+        let left = accepted-leaves h i (sound .words) (eqb-true _ 0 e) in
+        record { sized = step-sized h (sound .sized) i; words = left .words; whole = λ past. other-buffer (resultOf h i .state) (resultOf h i .store) past (left .whole) }
+    by false e = subst Sound (sym (refused-keeps h (sound .sized) i (eqb-false _ 0 e))) sound
+
+run-sound : (h : Held) → Sound h → (is : List Input) → Sound (run h is)
+unfolding run
+run-sound h sound [] = sound
+run-sound h sound (i ∷ is) = run-sound (step h i) (step-sound h sound i) is
+
+module _ (actor : ℕ) (name : Name) (past : Bytes) (ok : actorOk actor ≡ true) (named : nameOk name ≡ true) (short : length past ≤ storeMost) where
+  name-short : leb (length name) nameMost ≡ true
+  unfolding textOk
+  name-short = search both
+
+  fresh-name : stateNameOk (freshState actor name) ≡ true
+  unfolding stateNameOk
+  fresh-name =
+      let rest : Bytes = replicate (16 - length name) 0 in
+      rw (name-short, take-append-seam name rest, named, drop-append-seam name rest) (all-zero (16 - length name))
+
+  fresh-clock : clockOk windowWidth actor (replicate 32 0) ≡ true
+  unfolding clockOk
+  fresh-clock = rw (rows-tested windowWidth (replicate 32 0) (λ a. rw (row-empty a) (zero-formed windowWidth)), row-empty actor)
+
+  fresh-undamaged : Undamaged (freshState actor name) past
+  unfolding tombstoneOk ascendingDots dotsOf dotsAt dotsBytes storeOk usedOk keysAfter all ascends
+  fresh-undamaged = record { actor = ok; name = fresh-name; clock = fresh-clock; tombstone = refl; stored = rw (le-leb (length past) storeMost short, le-leb 0 (length past) (omega arith)) }
+
+start-sound : (c : Controlled) → Sound (started (c .actor) (c .name))
+unfolding setUp
+start-sound c =
+    let passed = none-holds (setUpRefusals (c .actor) (c .name)) (search needs) (ap numberOf (c .set-up)) in
+    record {
+      sized = start-sized c;
+      words = rw (fresh-state c);
+      whole = λ past short. rw (fresh-state c) (fresh-undamaged (c .actor) (c .name) past (not-false _ (neither-left _ (badName (c .name)) (passed .0))) (not-false _ (neither-right (badActor (c .actor)) _ (passed .0))) short);
+    }
+
+-- every state that calls reach from an accepted set-up, in any buffer of at most 65,536 bytes that begins with the used ones
+pub reached-undamaged : (c : Controlled) (past : Bytes) → length (endOf c .used ++ past) ≤ storeMost → damaged (endOf c .state) (endOf c .used ++ past) ≡ false
+reached-undamaged c past short = not-damaged _ _ (run-sound (started (c .actor) (c .name)) (start-sound c) (c .calls) .whole past short)

@@ -1,0 +1,32 @@
+-- What each public call promises: one record that equates answer, state, lent buffers and counts with the call's result on bytes.
+use denote.Ref.{RefT}
+use Prim.Native.Nat.{ℕ}
+use mathlib.Core.Bool.{Bool}
+use mathlib.Core.Path.{_≡_}
+use Rattle.wire.specs.Bytes.{Bytes, IsPart}
+use Rattle.dots.specs.Answer.{numberOf}
+use Rattle.calls.specs.declared.State.{State}
+use Rattle.calls.specs.declared.Outcome.{Outcome}
+use Rattle.calls.specs.declared.Listed.{Listed}
+use Rattle.calls.specs.Calls.{Result, lookupResult}
+
+-- a call that may change state and store and puts bytes out
+pub record Leaves (result : Result) (store out : Bytes) (r : Outcome) : Type 0 where
+  pub answered : r .answer ≡ result .answer
+  pub state-is : r .state ≡ result .state
+  pub written-is : r .written ≡ result .written
+  pub store-is : store ≡ result .store
+  pub out-is : out ≡ result .out
+
+-- a listing
+pub record Lists (result : Result) (out : Bytes) (r : Listed) : Type 0 where
+  pub answered : r .answer ≡ result .answer
+  pub written-is : r .written ≡ result .written
+  pub labels-are : r .labels ≡ result .labels
+  pub out-is : out ≡ result .out
+
+-- a lookup: the answer's number, the yes, and the very stretch of the lent store
+pub record LooksUp (st : State) (store : RefT Bytes) (label : Bytes) (number : ℕ) (listed : Bool) (r : RefT Bytes) : Type 0 where
+  pub answered : number ≡ numberOf (lookupResult st (store .now) label .answer)
+  pub listed-is : listed ≡ lookupResult st (store .now) label .listed
+  pub stretch-is : IsPart store (lookupResult st (store .now) label .start) (lookupResult st (store .now) label .end) r

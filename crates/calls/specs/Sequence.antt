@@ -1,0 +1,105 @@
+-- Calls in a row: "Each call in the sequence has any arguments of its own. The first gets the state that set-up gave, used length 0;
+-- each later one ... gets state and used store bytes from the call before, be it refused or not".
+use Prim.Native.Nat.{ℕ}
+use mathlib.Core.Bool.{Bool, cond}
+use mathlib.Core.List.{List, [], _∷_, _++_}
+use lib.Dec.{eqb}
+use lib.ListN.{take}
+use Rattle.wire.specs.Bytes.{Bytes, AreBytes}
+use Rattle.dots.specs.Answer.{numberOf}
+use Rattle.dots.specs.Names.{Name}
+use Rattle.dots.specs.Dots.{actorOf}
+use Rattle.dots.specs.Wire.{dotsOf}
+use Rattle.dots.specs.Message.{Message}
+use Rattle.messages.specs.Read.{messageOf}
+use Rattle.replica.specs.Machine.{Call, ownAdd, ownRemove, takeIn, list, lookup, compact}
+use Rattle.replica.specs.Rule.{Event, noHistory, historyFrom}
+use Rattle.calls.specs.declared.State.{State}
+use Rattle.calls.specs.Calls.{setUp, Result, refused, ownAddResult, ownRemoveResult, takeInResult, listResult, lookupResult, compactResult}
+
+-- a call with its arguments and lent buffers: `out`, and the store's buffer `past` the used bytes, which "may differ from call to call, in length and in content"
+pub data Input : Type 0 where
+  addInput : (label context past out : Bytes) → Input
+  removeInput : (context past out : Bytes) → Input
+  messageInput : (message past : Bytes) → Input
+  listInput : (past out : Bytes) → Input
+  lookupInput : (label past : Bytes) → Input
+  compactInput : (past : Bytes) → Input
+
+-- what passes from call to call
+pub record Held : Type 0 where
+  pub state : State
+  pub used : Bytes
+
+abbrev pub started : ℕ → Name → Held
+started actor name = record { state = setUp actor name .state; used = [] }
+
+unfoldable pub resultOf : Held → Input → Result
+resultOf h (addInput label context past out) = ownAddResult (h .state) (h .used ++ past) label context out
+resultOf h (removeInput context past out) = ownRemoveResult (h .state) (h .used ++ past) context out
+resultOf h (messageInput message past) = takeInResult (h .state) (h .used ++ past) message
+resultOf h (listInput past out) = listResult (h .state) (h .used ++ past) out
+resultOf h (lookupInput label past) = refused (h .state) (h .used ++ past) [] (lookupResult (h .state) (h .used ++ past) label .answer)
+resultOf h (compactInput past) = compactResult (h .state) (h .used ++ past)
+
+abbrev pub answerOf : Held → Input → ℕ
+answerOf h i = numberOf (resultOf h i .answer)
+
+-- "A call is accepted when it answers 0."
+abbrev pub accepts : Held → Input → Bool
+accepts h i = eqb (answerOf h i) 0
+
+abbrev pub heldAfter : Result → Held
+heldAfter r = record { state = r .state; used = take (r .state .used) (r .store) }
+
+abbrev pub step : Held → Input → Held
+step h i = heldAfter (resultOf h i)
+
+unfoldable pub run : Held → List Input → Held
+run h [] = h
+run h (i ∷ is) = run (step h i) is
+
+-- The call that the rule reads. "A message's label, dot and context are those in its bytes. An own add's label and context are its arguments."
+unfoldable pub callOf : Input → Call
+callOf (addInput label context past out) = ownAdd label (dotsOf context)
+callOf (removeInput context past out) = ownRemove (dotsOf context)
+callOf (messageInput message past) = takeIn (messageOf message)
+callOf (listInput past out) = list
+callOf (lookupInput label past) = lookup label
+callOf (compactInput past) = compact
+
+-- "The rule reads the calls' arguments and which calls were accepted, nothing from clock, tombstone or store."
+unfoldable pub events : Held → List Input → List Event
+events h [] = []
+events h (i ∷ is) = record { call = callOf i; accepted = accepts h i } ∷ events (step h i) is
+
+-- label, dot and context of every accepted add, context of every accepted remove; an own add's dot is this actor with the number of its accepted own adds
+abbrev pub acceptedMessages : ℕ → Name → List Input → List Message
+acceptedMessages actor name is = historyFrom (actorOf actor) noHistory (events (started actor name) is) .messages
+
+-- the bytes put out
+abbrev pub output : Result → Bytes
+output r = take (r .written) (r .out)
+
+-- "The message of an own call is the one it writes."
+unfoldable pub messageBytesOf : Held → Input → List Bytes
+messageBytesOf h (addInput label context past out) = output (resultOf h (addInput label context past out)) ∷ []
+messageBytesOf h (removeInput context past out) = output (resultOf h (removeInput context past out)) ∷ []
+messageBytesOf h (messageInput message past) = message ∷ []
+messageBytesOf h (listInput past out) = []
+messageBytesOf h (lookupInput label past) = []
+messageBytesOf h (compactInput past) = []
+
+-- each message that was "taken in or written in an accepted call"
+unfoldable pub traffic : Held → List Input → List Bytes
+traffic h [] = []
+traffic h (i ∷ is) = cond (accepts h i) (messageBytesOf h i) [] ++ traffic (step h i) is
+
+-- what is given as a label or a message is bytes (of the other lists nothing is asked)
+abbrev pub InBytes : Input → Type 0
+InBytes (addInput label context past out) = AreBytes label
+InBytes (removeInput context past out) = Unit {0}
+InBytes (messageInput message past) = AreBytes message
+InBytes (listInput past out) = Unit {0}
+InBytes (lookupInput label past) = Unit {0}
+InBytes (compactInput past) = Unit {0}

@@ -1,0 +1,46 @@
+// The calls of a controller as definitions over its state: the state, what a call gives; specs/ has the results of the seven calls and demand 3.
+// A set name: its first len bytes; the others are 0.
+pub struct SetName {
+    pub bytes: [u8; 16],
+    pub len: usize,
+}
+
+// The clock: base and window of actor 1, those of actor 2, and so on.
+pub struct Clock {
+    pub words: [u64; 32],
+}
+
+// The tombstone: its first count dots, nine bytes each; the other bytes are 0.
+pub struct Tombstone {
+    pub bytes: [u8; 1152],
+    pub count: usize,
+}
+
+// What a controller holds, but for the store, which is lent to each call.
+pub struct State {
+    pub actor: dots::Actor,
+    pub name: SetName,
+    pub clock: Clock,
+    pub tombstone: Tombstone,
+    pub used: usize,
+}
+
+// What set-up gives.
+pub struct SetUp {
+    pub answer: dots::Answer,
+    pub state: State,
+}
+
+// What a call gives that may change the state: the answer, the new state, and how many bytes were put out.
+pub struct Outcome {
+    pub answer: dots::Answer,
+    pub state: State,
+    pub written: usize,
+}
+
+// What listing gives: the answer, how many bytes were put out, and how many labels they list.
+pub struct Listed {
+    pub answer: dots::Answer,
+    pub written: usize,
+    pub labels: usize,
+}

@@ -1,0 +1,2 @@
+-- Tests: what the steps test and count on.
+pub mod Tests

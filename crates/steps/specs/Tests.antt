@@ -1,0 +1,115 @@
+-- What the steps test and count on: tests of the table as the code groups them, and the changes that they make.
+use Prim.Native.Nat.{ℕ, _+_, _*_, _%_, _≤_}
+use mathlib.Core.Bool.{Bool, true, false, not, _&&_}
+use mathlib.Core.List.{List, [], _∷_}
+use mathlib.Core.Path.{_≡_}
+use lib.Dec.{isEq, leb, ltb}
+use lib.ListN.{length, take}
+use Rattle.wire.specs.Lists.{keep, member, insertAll}
+use Rattle.wire.specs.Bytes.{Bytes}
+use Rattle.dots.specs.Answer.{Refusals}
+use Rattle.dots.specs.declared.Answer.the-variants.{Damaged, BadName, BadDot, OwnAhead, CounterEnd, TooFar, TombstoneFull, StoreFull, OutputShort}
+use Rattle.dots.specs.Wire.{dotsBytes, dotsOf}
+use Rattle.dots.specs.declared.Actor.{Actor}
+use Rattle.dots.specs.declared.Dot.{Dot}
+use Rattle.dots.specs.Names.{Label, labelOk}
+use Rattle.dots.specs.Dots.{Context, actorOk, dotOf, dotOk, compareActors, compareDots, ascendingDots, contextMost}
+use Rattle.clock.specs.Row.{windowWidth}
+use Rattle.clock.specs.Clock.{sees, rowAt, clockOk, near}
+use Rattle.replica.specs.Machine.{apply, ifUnseen}
+use Rattle.store.specs.Valid.{storeMost}
+use Rattle.calls.specs.declared.State.{State}
+use Rattle.calls.specs.declared.Tombstone.{Tombstone}
+use Rattle.calls.specs.State.{clockModel, Machine, tombstoneDots, view}
+use Rattle.calls.specs.Damage.{stateNameOk, tombstoneMost, tombstoneOk, damaged}
+use Rattle.calls.specs.Effect.{padded}
+
+-- what is undamaged whatever the store is
+unfoldable pub stateOk : State → Bool
+stateOk st = actorOk (st .actor .number) && (stateNameOk st && (clockOk windowWidth (st .actor .number) (st .clock .words) && tombstoneOk st))
+
+-- a dot of the own actor above the own base
+abbrev pub aheadOf : Actor → ℕ → Dot → Bool
+aheadOf own base d = isEq (compareActors (d .actor) own) && not (leb (d .counter .number) base)
+
+-- a dot that was seen and is not in the tombstone
+abbrev pub joinsTombstone : List ℕ → List Dot → Dot → Bool
+joinsTombstone words tombstone d = sees words d && not (member compareDots d tombstone)
+
+-- the dot that an own add takes, and the tombstone with the dots of a context that were seen
+abbrev pub ownNext : State → Dot
+ownNext st = dotOf (st .actor) (rowAt (st .clock .words) (st .actor .number) .base + 1)
+
+abbrev pub nextTombstone : State → Context → List Dot
+nextTombstone st context = insertAll compareDots (keep (sees (st .clock .words)) context) (tombstoneDots st)
+
+-- what the code counts on: the tombstone of an undamaged state, and a context
+pub record Tombstoned (bytes : Bytes) (count : ℕ) : Type 0 where
+  pub size : length bytes ≡ 1152
+  pub few : count ≤ tombstoneMost
+  pub ascends : ascendingDots (dotsOf (take (count * 9) bytes)) ≡ true
+
+-- the same, with nothing but zeros past its dots
+pub record Padded (bytes : Bytes) (count : ℕ) : Type 0 where
+  pub tomb : Tombstoned bytes count
+  pub zeros : bytes ≡ padded 1152 (dotsBytes (dotsOf (take (count * 9) bytes)))
+
+pub record ContextFits (context : Bytes) : Type 0 where
+  pub whole : length context % 9 ≡ 0
+  pub short : length context ≤ 9 * contextMost
+  pub ascends : ascendingDots (dotsOf context) ≡ true
+
+-- the refusals that are tested on any arguments, and those that are tested where none of these holds
+abbrev pub earlyRefusals : Bool → Bool → Bool → Bool → Bool → Refusals
+earlyRefusals damage name dot ahead end = (damage, Damaged) ∷ (name, BadName) ∷ (dot, BadDot) ∷ (ahead, OwnAhead) ∷ (end, CounterEnd) ∷ []
+
+abbrev pub lateRefusals : Bool → Bool → Bool → Bool → Refusals
+lateRefusals far tombstone store output = (far, TooFar) ∷ (tombstone, TombstoneFull) ∷ (store, StoreFull) ∷ (output, OutputShort) ∷ []
+
+-- the later ones of an add and of a remove, own or taken in, for a store of so many bytes; short says whether the output is shorter than the message
+abbrev pub addLate : State → ℕ → Label → Dot → Context → Bool → Refusals
+addLate st size label d context short =
+    lateRefusals (not (near windowWidth (st .clock .words) (d ∷ context)))
+    (ltb tombstoneMost (length (nextTombstone st context)))
+    (not (sees (st .clock .words) d) && ltb size (st .used + (st .name .len + length label + 15))) short
+
+abbrev pub removeLate : State → Context → Bool → Refusals
+removeLate st context short =
+    lateRefusals (not (near windowWidth (st .clock .words) context)) (ltb tombstoneMost (length (nextTombstone st context))) false short
+
+-- a state with another clock, tombstone and used length
+abbrev pub stateWith : State → List ℕ → Tombstone → ℕ → State
+stateWith st words tombstone used = record { actor = st .actor; name = st .name; clock = record { words = words }; tombstone = tombstone; used = used }
+
+-- ---- adds
+
+-- what the later refusals of an add count on
+pub record MayOffer (st : State) (label context : Bytes) (d : Dot) : Type 0 where
+  pub state-ok : stateOk st ≡ true
+  pub small : st .used ≤ storeMost
+  pub labelled : labelOk label ≡ true
+  pub fits : ContextFits context
+  pub dot-ok : dotOk d ≡ true
+  pub new : member compareDots d (dotsOf context) ≡ false
+
+-- what joining a context and one more dot counts on
+pub record MayJoin (st : State) (context : Bytes) (d : Dot) : Type 0 where
+  pub state-ok : stateOk st ≡ true
+  pub fits : ContextFits context
+  pub dot-ok : dotOk d ≡ true
+  pub new : member compareDots d (dotsOf context) ≡ false
+  pub close : near windowWidth (st .clock .words) (d ∷ dotsOf context) ≡ true
+  pub few : length (nextTombstone st (dotsOf context)) ≤ tombstoneMost
+
+-- what applying an add counts on
+pub record MayApply (st : State) (store label context : Bytes) (d : Dot) : Type 0 where
+  pub whole : damaged st store ≡ false
+  pub joins : MayJoin st context d
+  pub labelled : labelOk label ≡ true
+  pub room-for : sees (st .clock .words) d ≡ false → st .used + (st .name .len + length label + 15) ≤ length store
+  pub name-size : length (st .name .bytes) ≡ 16
+  pub words-size : length (st .clock .words) ≡ 32
+
+-- the machine's state after it
+abbrev pub applied : State → Bytes → Label → Context → Dot → Machine
+applied st store label context d = apply clockModel (view st store) (ifUnseen clockModel (view st store) label d) context
