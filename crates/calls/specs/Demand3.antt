@@ -17,7 +17,7 @@ use Rattle.store.specs.Cut.{storeBytes}
 use Rattle.store.specs.Listing.{listingBytes}
 use Rattle.replica.specs.Rule.{pairs, removed, Paired, livePairs, ruleListing, IsListing, OneLabelPerDot}
 use Rattle.calls.specs.Calls.{setUp, lookupResult}
-use Rattle.calls.specs.Sequence.{Input, listInput, lookupInput, compactInput, Held, started, resultOf, answerOf, output, step, run, acceptedMessages, traffic, InBytes}
+use Rattle.calls.specs.Sequence.{Input, listInput, lookupInput, compactInput, Held, started, resultOf, answerOf, output, step, run, acceptedMessages, traffic}
 
 abbrev pub Accepted : Held → Input → Type 0
 Accepted h i = answerOf h i ≡ 0
@@ -58,7 +58,6 @@ pub record Controlled : Type 0 where
   pub name : Name
   pub set-up : setUp actor name .answer ≡ Done
   pub calls : List Input
-  pub bytes : (i : Input) → i ∈ calls → InBytes i
 
 abbrev pub messagesOf : Controlled → List Message
 messagesOf c = acceptedMessages (c .actor) (c .name) (c .calls)

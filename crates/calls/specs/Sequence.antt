@@ -5,7 +5,7 @@ use mathlib.Core.Bool.{Bool, cond}
 use mathlib.Core.List.{List, [], _∷_, _++_}
 use lib.Dec.{eqb}
 use lib.ListN.{take}
-use Rattle.wire.specs.Bytes.{Bytes, AreBytes}
+use Rattle.wire.specs.Bytes.{Bytes}
 use Rattle.dots.specs.Answer.{numberOf}
 use Rattle.dots.specs.Names.{Name}
 use Rattle.dots.specs.Dots.{actorOf}
@@ -94,12 +94,3 @@ messageBytesOf h (compactInput past) = []
 unfoldable pub traffic : Held → List Input → List Bytes
 traffic h [] = []
 traffic h (i ∷ is) = cond (accepts h i) (messageBytesOf h i) [] ++ traffic (step h i) is
-
--- what is given as a label or a message is bytes (of the other lists nothing is asked)
-abbrev pub InBytes : Input → Type 0
-InBytes (addInput label context past out) = AreBytes label
-InBytes (removeInput context past out) = Unit {0}
-InBytes (messageInput message past) = AreBytes message
-InBytes (listInput past out) = Unit {0}
-InBytes (lookupInput label past) = Unit {0}
-InBytes (compactInput past) = Unit {0}
