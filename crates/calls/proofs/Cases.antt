@@ -18,7 +18,7 @@ use Rattle.messages.specs.Read.{layoutOf, markOk, versionOk, shapeOk, messageAt
 use Rattle.messages.proofs.Cases.{m1-holds}
 use Rattle.store.specs.Cut.{endToEnd, storeBytes, keyLength, keysAfter, keyLabel, keyDot, entriesIn}
 use Rattle.store.specs.Valid.{usedOk, storeOk}
-use Rattle.store.specs.Listing.{listingBytes}
+use Rattle.listing.specs.Listing.{listingBytes}
 use Rattle.replica.specs.Machine.{apply, compacted, listing, found, effect}
 use Rattle.calls.specs.State.{view}
 use Rattle.calls.specs.Damage.{stateNameOk, tombstoneOk, damaged}

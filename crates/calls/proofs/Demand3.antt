@@ -15,7 +15,7 @@ use Rattle.dots.specs.Entries.{Entry, lineLabels}
 use Rattle.dots.specs.Message.{Message, pairsOf}
 use Rattle.messages.specs.Read.{messageOf}
 use Rattle.store.specs.Cut.{storeBytes}
-use Rattle.store.specs.Listing.{listingBytes}
+use Rattle.listing.specs.Listing.{listingBytes}
 use Rattle.replica.specs.Machine.{compact, effect, listing, found, messagesOf as machineMessages}
 use Rattle.replica.specs.Rule.{History, noHistory, noted, historyFrom, pairs, livePairs, ruleListing, OneLabelPerDot}
 use Rattle.replica.specs.Demand3.{run as runMachine, events as eventsMachine, traffic as trafficMachine, Follows as MachineFollows, Agree as MachineAgree}

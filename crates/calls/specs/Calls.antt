@@ -18,7 +18,7 @@ use Rattle.dots.specs.Message.{Message, add, remove, offeredOf}
 use Rattle.messages.specs.Message.{messageBytes}
 use Rattle.messages.specs.Read.{nameOf as messageName, messageOf, readRefusals}
 use Rattle.store.specs.Cut.{storeBytes}
-use Rattle.store.specs.Listing.{listingBytes}
+use Rattle.listing.specs.Listing.{listingBytes}
 use Rattle.replica.specs.Machine.{Call, ownAdd, ownRemove, takeIn, compact, effect, nextDot, ifUnseen, listing, found}
 use Rattle.calls.specs.declared.State.{State}
 use Rattle.calls.specs.declared.SetUp.{SetUp}

@@ -14,7 +14,7 @@ use Rattle.dots.specs.Entries.{lineLabels}
 use Rattle.dots.specs.Message.{Message}
 use Rattle.clock.specs.Clock.{sees}
 use Rattle.store.specs.Cut.{storeBytes}
-use Rattle.store.specs.Listing.{listingBytes}
+use Rattle.listing.specs.Listing.{listingBytes}
 use Rattle.replica.specs.Rule.{pairs, removed, Paired, livePairs, ruleListing, IsListing, OneLabelPerDot}
 use Rattle.calls.specs.Calls.{setUp, lookupResult}
 use Rattle.calls.specs.Sequence.{Input, listInput, lookupInput, compactInput, Held, started, resultOf, answerOf, output, step, run, acceptedMessages, traffic}

@@ -13,7 +13,7 @@ use Rattle.dots.specs.Dots.{compareDots, dotOk}
 use Rattle.dots.specs.Wire.{dotsOf, placeOf}
 use Rattle.dots.proofs.Orders.{dots}
 use Rattle.dots.proofs.Rules.{ascending-valid, ascending-up, up-ascending}
-use Rattle.dots.proofs.Places.{insert-around}
+use Rattle.contexts.proofs.Places.{insert-around}
 use Rattle.clock.specs.Row.{wellFormed}
 use Rattle.clock.specs.Clock.{joinEach, joinAll, near}
 use Rattle.clock.specs.Reach.{Reach, reachStart, reachEach, Ready, Offer, OfferWith}

@@ -19,6 +19,7 @@ pub struct Row {
     pub window: u64,
 }
 
+// Whether a row sees an event.
 fn row_sees(row: Row, counter: u64) -> bool
     ensures { λ r. ⌜ r ≡ isSeen (rowOf row) counter ⌝ }
 {
@@ -102,6 +103,7 @@ pub struct Reach {
     pub row: Row,
 }
 
+// The row of an actor; of no actor it is zero.
 pub fn row_of(words: &[u64; 32], actor: dots::Actor) -> Row
     ensures { λ r. ⌜ rowOf r ≡ rowAt (now (words .entry)) (actor .number) ⌝ }
 {
@@ -119,6 +121,7 @@ pub fn row_of(words: &[u64; 32], actor: dots::Actor) -> Row
     }
 }
 
+// Puts the row of an actor in its place.
 fn set_row(words: &mut [u64; 32], actor: dots::Actor, row: Row)
     ensures { λ _. ⌜ now (words .exit) ≡ withRow (now (words .entry)) (actor .number) (rowOf row) ⌝ }
 {
@@ -134,6 +137,7 @@ fn set_row(words: &mut [u64; 32], actor: dots::Actor, row: Row)
     words[at + 1] = row.window;
 }
 
+// Whether the clock sees a dot.
 pub fn sees(words: &[u64; 32], dot: dots::Dot) -> bool
     ensures { λ r. ⌜ r ≡ isSeenBy (now (words .entry)) dot ⌝ }
 {
@@ -273,7 +277,7 @@ pub fn near_with_dot(words: &[u64; 32], context: &[u8], dot: dots::Dot) -> bool
     requires { ⌜ OfferWith windowWidth (now words) (now context) dot ⌝ }
     ensures { λ r. ⌜ r ≡ near windowWidth (now (words .entry)) (dot ∷ dotsOf (now (context .entry))) ⌝ }
 {
-    let at = dots::place_of(context, dot) * 9;
+    let at = contexts::place_of(context, dot) * 9;
     near_around(words, &context[..at], dot, &context[at..])
 }
 
@@ -300,6 +304,6 @@ pub fn join_with_dot(words: &mut [u64; 32], context: &[u8], dot: dots::Dot)
     requires { ⌜ (length (now words) ≡ 32) × OfferWith windowWidth (now words) (now context) dot × (near windowWidth (now words) (dot ∷ dotsOf (now context)) ≡ true) ⌝ }
     ensures { λ _. ⌜ now (words .exit) ≡ joinAll windowWidth (now (words .entry)) (dot ∷ dotsOf (now (context .entry))) ⌝ }
 {
-    let at = dots::place_of(context, dot) * 9;
+    let at = contexts::place_of(context, dot) * 9;
     join_around(words, &context[..at], dot, &context[at..]);
 }

@@ -15,17 +15,17 @@ use Rattle.dots.specs.declared.Dot.{Dot}
 use Rattle.dots.specs.Dots.{compareDots, ascendingDots}
 use Rattle.dots.specs.Wire.{dotsBytes}
 use Rattle.dots.proofs.Loops.{length-dotsAt}
-use Rattle.dots.proofs.Places.{dots-front}
+use Rattle.contexts.proofs.Places.{dots-front}
 use Rattle.dots.proofs.RoundTrip.{length-dots}
 use Rattle.keys.specs.Entry.{entryKey}
-use Rattle.store.specs.declared.Compacted.{Compacted}
+use Rattle.compaction.specs.declared.Compacted.{Compacted}
 use Rattle.store.specs.Cut.{storeBytes, keysOf}
 use Rattle.store.specs.Valid.{keysFit}
-use Rattle.store.specs.Compaction.{inPlaceOf, Compacts}
+use Rattle.compaction.specs.Compaction.{inPlaceOf, Compacts}
 use Rattle.store.proofs.RoundTrip.{keys-written}
-use Rattle.store.proofs.Pieces.{in-place-padded}
-use Rattle.store.proofs.Marks.{keep-shorter}
-use Rattle.store.proofs.CompactedEntries.{store-left, used-left, tombstone-left, count-left}
+use Rattle.compaction.proofs.Pieces.{in-place-padded}
+use Rattle.compaction.proofs.Marks.{keep-shorter}
+use Rattle.compaction.proofs.CompactedEntries.{store-left, used-left, tombstone-left, count-left}
 use Rattle.replica.specs.Machine.{live, droppedDots, compacted, effect}
 use Rattle.calls.specs.declared.State.{State}
 use Rattle.calls.specs.State.{clockModel, Machine, nameOf, tombstoneDots, usedPart, entries, view}

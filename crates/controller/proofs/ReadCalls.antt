@@ -25,7 +25,7 @@ use Rattle.keys.specs.Entry.{entryOk}
 use Rattle.store.specs.Cut.{storeBytes, keysOf, entriesIn}
 use Rattle.store.specs.Valid.{keysFit}
 use Rattle.store.specs.Place.{lengthWhile, lowerThan, placeIn, labelStart, stretchStart, stretchEnd}
-use Rattle.store.specs.Listing.{listingBytes}
+use Rattle.listing.specs.Listing.{listingBytes}
 use Rattle.store.proofs.Cut.{endToEnd-keysOf}
 use Rattle.store.proofs.Inserted.{while-within}
 use Rattle.store.proofs.RoundTrip.{UsedEntries, keys-fit, entries-written}

@@ -11,7 +11,7 @@ use Rattle.dots.specs.Wire.{dotsOf}
 use Rattle.dots.specs.Entries.{Line}
 use Rattle.store.specs.Cut.{entriesIn}
 use Rattle.store.specs.Valid.{storeMost, keysFit}
-use Rattle.store.specs.Listing.{linesOfLive, listingBytes}
+use Rattle.listing.specs.Listing.{linesOfLive, listingBytes}
 use Rattle.calls.specs.declared.Listed.{Listed}
 use Rattle.calls.specs.Effect.{putOut}
 use Rattle.calls.specs.Refusals.{outputShort}

@@ -28,7 +28,7 @@ ghost use Rattle.calls.specs.Calls.{freshState, setUp, ownAddResult, ownRemoveR
 ghost use Rattle.calls.specs.Promise.{Leaves, Lists, LooksUp};
 ghost use Rattle.wire.specs.Bytes.{IsPart, compareBytes};
 ghost use Rattle.store.specs.Cut.{entriesIn};
-ghost use Rattle.store.specs.Listing.{linesOfLive};
+ghost use Rattle.listing.specs.Listing.{linesOfLive};
 ghost use Rattle.controller.specs.Reads.{Readable, linesIn, ListsLines};
 ghost use Rattle.replica.specs.Machine.{effect, takeIn, compacted};
 
@@ -65,7 +65,7 @@ fn name_bytes(name: &[u8]) -> [u8; 16]
     ensures { λ r. ⌜ r ≡ padded 16 (now (name .entry)) ⌝ }
 {
     let mut bytes = [0u8; 16];
-    wire::put(&mut bytes, 0, name);
+    moves::put(&mut bytes, 0, name);
     bytes
 }
 
@@ -269,7 +269,7 @@ fn other_set(name: &[u8], len: usize, given: &[u8]) -> bool
     requires { ⌜ len ≤ length (now name) ⌝ }
     ensures { λ r. ⌜ r ≡ not (isEq (compareBytes (now (given .entry)) (take len (now (name .entry))))) ⌝ }
 {
-    let starts = wire::starts_with(given, &name[..len]);
+    let starts = search::starts_with(given, &name[..len]);
     !(starts & (given.len() == len))
 }
 
@@ -405,7 +405,7 @@ fn list_keys(n: usize, keys: &[u8], tombstone: &[u8], out: &mut [u8]) -> calls::
     requires { ⌜ (n ≤ 16) × (length (now keys) ≤ 65536) × (keysFit n (now keys) ≡ true) × (ascendingDots (dotsOf (now tombstone)) ≡ true) ⌝ }
     ensures { λ r. ⌜ ListsLines (linesOfLive (dotsOf (now (tombstone .entry))) (entriesIn n (now (keys .entry)))) (now (out .entry)) (now (out .exit)) r ⌝ }
 {
-    let size = store::listing_size(n, keys, tombstone);
+    let size = listing::listing_size(n, keys, tombstone);
     if out.len() < size.bytes {
         return calls::Listed {
             answer: dots::Answer::OutputShort,
@@ -413,7 +413,7 @@ fn list_keys(n: usize, keys: &[u8], tombstone: &[u8], out: &mut [u8]) -> calls::
             labels: 0,
         };
     }
-    store::write_listing(n, keys, tombstone, out);
+    listing::write_listing(n, keys, tombstone, out);
     calls::Listed {
         answer: dots::Answer::Done,
         written: size.bytes,
@@ -478,7 +478,7 @@ fn any_listed(n: usize, keys: &[u8], tombstone: calls::Tombstone) -> bool
 {
     let bytes = tombstone.bytes;
     let size = tombstone.count * 9;
-    store::any_live(n, keys, &bytes[..size])
+    listing::any_live(n, keys, &bytes[..size])
 }
 
 // The number of the first refusal of a lookup that holds, else 0.
@@ -522,7 +522,7 @@ fn compact_whole(state: calls::State, store: &mut [u8]) -> calls::State
 {
     let clock = state.clock;
     let mut bytes = state.tombstone.bytes;
-    let left = store::compact(
+    let left = compaction::compact(
         state.name.len,
         store,
         state.used,

@@ -157,10 +157,10 @@ fn put_front(out: &mut [u8], name: &[u8], byte: u8) -> usize
     ensures { λ r. ⌜ (r ≡ length (now (name .entry)) + 4) × (now (out .exit) ≡ putAt (now (out .entry)) 0 (frontBytes (now (name .entry)) byte)) ⌝ }
 {
     let head = [2u8, 1u8];
-    let next = wire::put(out, 0, &head);
-    let end = wire::put(out, next, name);
+    let next = moves::put(out, 0, &head);
+    let end = moves::put(out, next, name);
     let tail = [0u8, byte];
-    wire::put(out, end, &tail)
+    moves::put(out, end, &tail)
 }
 
 // Puts 00, actor, 00 and counter into out at a place.
@@ -170,8 +170,8 @@ fn put_dot(out: &mut [u8], at: usize, actor: u8, counter: u64) -> usize
 {
     let front = [0u8, actor, 0u8];
     let number = wire::number_bytes(counter);
-    let next = wire::put(out, at, &front);
-    wire::put(out, next, &number)
+    let next = moves::put(out, at, &front);
+    moves::put(out, next, &number)
 }
 
 // Puts 00, actor and 00 into out at a place.
@@ -180,7 +180,7 @@ fn put_actor(out: &mut [u8], at: usize, actor: u8) -> usize
     ensures { λ r. ⌜ (r ≡ at + 3) × (now (out .exit) ≡ putAt (now (out .entry)) at (tailBytes ClockKey actor 0)) ⌝ }
 {
     let tail = [0u8, actor, 0u8];
-    wire::put(out, at, &tail)
+    moves::put(out, at, &tail)
 }
 
 // Puts 00 and 00 into out at a place.
@@ -189,7 +189,7 @@ fn put_end(out: &mut [u8], at: usize) -> usize
     ensures { λ r. ⌜ (r ≡ at + 2) × (now (out .exit) ≡ putAt (now (out .entry)) at (tailBytes EndKey 0 0)) ⌝ }
 {
     let tail = [0u8, 0u8];
-    wire::put(out, at, &tail)
+    moves::put(out, at, &tail)
 }
 
 // Puts what follows the label into out at a place.
@@ -220,7 +220,7 @@ fn put_key(
     let byte = type_byte(kind);
     let label_part = kept(has_label(kind), label);
     let label_at = put_front(out, name, byte);
-    let tail_at = wire::put(out, label_at, label_part);
+    let tail_at = moves::put(out, label_at, label_part);
     put_tail(out, tail_at, kind, actor, counter)
 }
 
@@ -265,7 +265,7 @@ fn rest<'a>(s: &'a [u8], at: usize) -> &'a [u8]
 fn name_length(s: &[u8]) -> usize
     ensures { λ r. ⌜ (r ≡ nameLength (now (s .entry))) × (r ≤ length (now (s .entry))) ⌝ }
 {
-    wire::zero_at(rest(s, 2))
+    search::zero_at(rest(s, 2))
 }
 
 // Whether magic byte, version byte, the length n of the name and the type byte are those of a key.
@@ -283,7 +283,7 @@ fn front_ok(s: &[u8], kind: KeyKind, n: usize) -> bool
 fn label_after(t: &[u8]) -> bool
     ensures { λ r. ⌜ r ≡ labelAfter (now (t .entry)) ⌝ }
 {
-    let n = wire::zero_at(t);
+    let n = search::zero_at(t);
     if t.len() - n != 11 {
         return false;
     }
@@ -370,7 +370,7 @@ fn found_key(s: &[u8], kind: KeyKind, n: usize) -> KeyRead
     requires { ⌜ (isKey kind (now s) ≡ true) × (n ≡ nameLength (now s)) × (n ≤ length (now s)) ⌝ }
     ensures { λ r. ⌜ r ≡ foundKey kind (now (s .entry)) ⌝ }
 {
-    let l = wire::zero_at(rest(s, n + 4));
+    let l = search::zero_at(rest(s, n + 4));
     let labelled = has_label(kind);
     let label = label_span(labelled, n + 4, l);
     let actor = actor_at(s, has_actor(kind), n + l + 5);

@@ -141,10 +141,10 @@ fn dots_ok(s: &[u8], l: Layout) -> bool
     ensures { λ r. ⌜ r ≡ dotsOk (messageAt (now (s .entry)) l) ⌝ }
 {
     let context = wire::part(s, l.context.at, l.context.len);
-    let rule = dots::context_ok(context);
+    let rule = contexts::context_ok(context);
     if l.kind == b'a' {
         let own = dots::dot_at(s, l.dot);
-        return dots::dot_ok(own) & (rule & !dots::has_dot(context, own));
+        return dots::dot_ok(own) & (rule & !contexts::has_dot(context, own));
     }
     rule
 }
@@ -261,8 +261,8 @@ fn put_counted(out: &mut [u8], at: usize, count: u8, field: &[u8]) -> usize
     ensures { λ r. ⌜ (r ≡ at + 1 + length (now (field .entry))) × (now (out .exit) ≡ putAt (now (out .entry)) at (count ∷ now (field .entry))) ⌝ }
 {
     let first = [count];
-    let next = wire::put(out, at, &first);
-    wire::put(out, next, field)
+    let next = moves::put(out, at, &first);
+    moves::put(out, next, field)
 }
 
 // Puts mark, version 1, kind and set name at the front.
@@ -271,7 +271,7 @@ fn put_front(out: &mut [u8], kind: u8, name: &[u8]) -> usize
     ensures { λ r. ⌜ (r ≡ 7 + length (now (name .entry))) × (now (out .exit) ≡ putAt (now (out .entry)) 0 (frontBytes kind (now (name .entry)))) ⌝ }
 {
     let head = [b'P', b'T', b'L', 0, 1, kind];
-    let at = wire::put(out, 0, &head);
+    let at = moves::put(out, 0, &head);
     put_counted(out, at, name.len() as u8, name)
 }
 
@@ -281,7 +281,7 @@ fn put_dot(out: &mut [u8], at: usize, dot: dots::Dot) -> usize
     ensures { λ r. ⌜ (r ≡ at + 9) × (now (out .exit) ≡ putAt (now (out .entry)) at (dotBytes dot)) ⌝ }
 {
     let bytes = dots::dot_bytes(dot);
-    wire::put(out, at, &bytes)
+    moves::put(out, at, &bytes)
 }
 
 // Puts the number of dots of a context, and the context.

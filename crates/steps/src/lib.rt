@@ -73,7 +73,7 @@ fn tombstone_ok(words: &[u64; 32], bytes: &[u8], count: usize) -> bool
         return false;
     }
     let used = count * 9;
-    let ascend = dots::ascending_dots(&bytes[..used]);
+    let ascend = contexts::ascending_dots(&bytes[..used]);
     let seen = all_seen(words, &bytes[..used]);
     ascend & (seen & all_zero(&bytes[used..]))
 }
@@ -153,7 +153,7 @@ pub fn has_next(own: dots::Actor, base: u64, context: &[u8]) -> bool
     if base == u64::MAX {
         return false;
     }
-    dots::has_dot(
+    contexts::has_dot(
         context,
         dots::Dot {
             actor: own,
@@ -168,7 +168,7 @@ fn joins_tombstone(words: &[u64; 32], tombstone: &[u8], dot: dots::Dot) -> bool
     ensures { λ r. ⌜ r ≡ joinsTombstone (now (words .entry)) (dotsOf (now (tombstone .entry))) dot ⌝ }
 {
     let seen = clock::sees(words, dot);
-    seen & !dots::holds_dot(tombstone, dot)
+    seen & !contexts::holds_dot(tombstone, dot)
 }
 
 // 1 for true, 0 for false.
@@ -198,7 +198,7 @@ fn tombstone_growth(words: &[u64; 32], tombstone: &[u8], context: &[u8]) -> usiz
 pub fn context_bad(context: &[u8]) -> bool
     ensures { λ r. ⌜ r ≡ badContext (now (context .entry)) ⌝ }
 {
-    let rule = dots::context_ok(context);
+    let rule = contexts::context_ok(context);
     !((context.len() % 9 == 0) & rule)
 }
 
@@ -296,7 +296,7 @@ fn tombstone_with_dot(
     ensures { λ r. ⌜ Padded (now (bytes .exit)) r × (dotsOf (take (r * 9) (now (bytes .exit))) ≡ cond (sees (now (words .entry)) dot) (insert compareDots dot (dotsOf (take (count * 9) (now (bytes .entry))))) (dotsOf (take (count * 9) (now (bytes .entry))))) ⌝ }
 {
     if clock::sees(words, dot) {
-        return dots::insert_dot(bytes, count, dot);
+        return contexts::insert_dot(bytes, count, dot);
     }
     count
 }

@@ -1,9 +1,6 @@
 -- Cut: how bytes are cut into keys. Walk: one turn of a walk over keys. Starts: what keys begin with. KeySays: what the key of an entry says.
 -- RoundTrip: used bytes and entries. Front: the key at the front. OnePass: one pass decides the rules of used bytes.
 -- Placed: the place of a key. Inserted: a key put at its place. Stretches: the keys of a label.
--- Listings: lines from left to right, and their bytes. OpenLines: a listing up to a key, its bytes written. ListedKeys: a listing's walk over keys.
--- Pieces: a piece kept further down a buffer. Marks: marks on dots. Compaction: the walk that drops keys.
--- DotsLeft: the unmarked dots moved together. CompactedEntries: compaction of entries.
 pub mod Cut
 pub mod Walk
 pub mod Starts
@@ -14,11 +11,3 @@ pub mod OnePass
 pub mod Placed
 pub mod Inserted
 pub mod Stretches
-pub mod Listings
-pub mod OpenLines
-pub mod ListedKeys
-pub mod Pieces
-pub mod Marks
-pub mod Compaction
-pub mod DotsLeft
-pub mod CompactedEntries

@@ -8,7 +8,7 @@ use borrow.Author.Tests.{lt-ltb, le-ltb}
 use Rattle.wire.specs.Bytes.{Bytes}
 use Rattle.dots.specs.declared.Answer.the-variants.{Done, OutputShort}
 use Rattle.dots.specs.Entries.{Line}
-use Rattle.store.specs.Listing.{listingBytes}
+use Rattle.listing.specs.Listing.{listingBytes}
 use Rattle.calls.specs.Effect.{putOut}
 use Rattle.controller.specs.Reads.{ListsLines}
 use borrow.Author.Needs.{needs}

@@ -7,7 +7,7 @@ use lib.ListN.{length, take}
 use Rattle.dots.specs.declared.Dot.{Dot}
 use Rattle.dots.specs.Wire.{dotsBytes, dotsOf}
 use Rattle.dots.proofs.Loops.{length-dotsAt}
-use Rattle.dots.proofs.Places.{dots-front}
+use Rattle.contexts.proofs.Places.{dots-front}
 use Rattle.calls.specs.declared.Tombstone.{Tombstone}
 use Rattle.calls.specs.Effect.{padded, tombstoneOf}
 use Rattle.steps.specs.Tests.{Padded}

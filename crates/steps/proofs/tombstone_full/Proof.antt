@@ -10,7 +10,7 @@ use Rattle.dots.specs.Dots.{compareDots}
 use Rattle.dots.specs.Wire.{dotsOf}
 use Rattle.dots.proofs.Rules.{ascending-up}
 use Rattle.dots.proofs.Loops.{length-dotsAt}
-use Rattle.dots.proofs.Places.{dots-front}
+use Rattle.contexts.proofs.Places.{dots-front}
 use Rattle.clock.specs.Clock.{sees}
 use Rattle.steps.specs.Tests.{joinsTombstone, Tombstoned, ContextFits}
 use Rattle.steps.proofs.Parts.{front-size}

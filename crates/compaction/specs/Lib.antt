@@ -1,0 +1,3 @@
+-- Compaction: what it leaves. Marks: its steps.
+pub mod Compaction
+pub mod Marks

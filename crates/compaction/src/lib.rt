@@ -1,0 +1,133 @@
+// Compaction of a label store in place, with its tombstone.
+ghost use mathlib.Core.Path.{_≡_};
+ghost use mathlib.Core.Bool.{true};
+ghost use Prim.Native.Nat.{_+_, _*_, _≤_};
+ghost use lib.ListN.{length, take};
+ghost use Rattle.wire.specs.Lists.{member};
+ghost use Rattle.dots.specs.Dots.{compareDots, ascendingDots};
+ghost use Rattle.dots.specs.Wire.{dotsOf, dotsBytes};
+ghost use Rattle.dots.specs.Entries.{entry};
+ghost use Rattle.store.specs.Valid.{keysFit};
+ghost use Rattle.compaction.specs.Compaction.{Compacts, inPlaceOf};
+ghost use Rattle.compaction.specs.Marks.{unmarked, MarksDot, KeepsPiece, DropsKey, DropsKeys};
+
+// The used length and the number of tombstone dots that compacting leaves.
+pub struct Compacted {
+    pub used: usize,
+    pub count: usize,
+}
+
+// ---- compaction
+
+// Marks the dot if it is one of the ascending dots. Answers whether it is.
+fn mark_dot(ascending: &[u8], marks: &mut [u8; 128], dot: dots::Dot) -> bool
+    requires { ⌜ (ascendingDots (dotsOf (now ascending)) ≡ true) × (length (now ascending) ≤ 1152) × (length (now marks) ≡ 128) ⌝ }
+    ensures { λ r. ⌜ MarksDot dot (dotsOf (now (ascending .entry))) r (now (marks .entry)) (now (marks .exit)) ⌝ }
+{
+    if !contexts::holds_dot(ascending, dot) {
+        return false;
+    }
+    let at = contexts::search_dot(ascending, dot);
+    marks[at] = 1;
+    true
+}
+
+// Keeps the piece from `from` to `end` at `to`, or leaves it out. Returns where the next one goes.
+fn keep_piece(s: &mut [u8], kept: bool, from: usize, end: usize, to: usize) -> usize
+    requires { ⌜ (to ≤ from) × (from ≤ end) × (end ≤ length (now s)) ⌝ }
+    ensures { λ r. ⌜ KeepsPiece kept from end to r (now (s .entry)) (now (s .exit)) ⌝ }
+{
+    if !kept {
+        return to;
+    }
+    if to == from {
+        return end;
+    }
+    moves::shift_down(&mut s[to..end], from - to);
+    end - (from - to)
+}
+
+// Keeps the key from `from` to `end` at `to`, or marks its dot if that is one of the ascending dots. Returns where the next one goes.
+fn drop_key(
+    keys: &mut [u8],
+    ascending: &[u8],
+    marks: &mut [u8; 128],
+    from: usize,
+    end: usize,
+    to: usize,
+) -> usize
+    requires { ⌜ (to ≤ from) × (from + 10 ≤ end) × (end ≤ length (now keys)) × (ascendingDots (dotsOf (now ascending)) ≡ true) × (length (now ascending) ≤ 1152) × (length (now marks) ≡ 128) ⌝ }
+    ensures { λ r. ⌜ DropsKey (λ d. member compareDots d (dotsOf (now (ascending .entry)))) (dotsOf (now (ascending .entry))) from end to r (now (keys .entry)) (now (keys .exit)) (now (marks .entry)) (now (marks .exit)) ⌝ }
+{
+    let dot = store::key_dot(&keys[from..end]);
+    let gone = mark_dot(ascending, marks, dot);
+    keep_piece(keys, !gone, from, end, to)
+}
+
+// Drops the keys whose dots are among the ascending dots, and marks these. Returns how many bytes are left; the freed ones become 0.
+fn drop_keys(n: usize, keys: &mut [u8], ascending: &[u8], marks: &mut [u8; 128]) -> usize
+    requires { ⌜ (n ≤ 16) × (keysFit n (now keys) ≡ true) × (ascendingDots (dotsOf (now ascending)) ≡ true) × (length (now ascending) ≤ 1152) × (length (now marks) ≡ 128) ⌝ }
+    ensures { λ r. ⌜ DropsKeys (λ d. member compareDots d (dotsOf (now (ascending .entry)))) (dotsOf (now (ascending .entry))) n r (now (keys .entry)) (now (keys .exit)) (now (marks .entry)) (now (marks .exit)) ⌝ }
+{
+    let mut from: usize = 0;
+    let mut to: usize = 0;
+    while from < keys.len() {
+        let end = from + store::key_length(n, &keys[from..]);
+        to = drop_key(keys, ascending, marks, from, end, to);
+        from = end;
+    }
+    moves::clear(&mut keys[to..]);
+    to
+}
+
+// Moves the unmarked dots together. Returns how many there are; the freed bytes become 0.
+fn drop_dots(bytes: &mut [u8], marks: &[u8; 128]) -> usize
+    requires { ⌜ (length (now bytes) ≤ 1152) × (length (now marks) ≡ 128) ⌝ }
+    ensures { λ r. ⌜ (r ≡ length (unmarked (now (marks .entry)) (dotsOf (now (bytes .entry))))) × (now (bytes .exit) ≡ inPlaceOf (dotsBytes (unmarked (now (marks .entry)) (dotsOf (now (bytes .entry))))) (length (now (bytes .entry))) (now (bytes .entry))) ⌝ }
+{
+    let n = bytes.len() / 9;
+    let mut to: usize = 0;
+    let mut i: usize = 0;
+    while i < n {
+        let from = i * 9;
+        to = keep_piece(bytes, marks[i] == 0, from, from + 9, to);
+        i += 1;
+    }
+    moves::clear(&mut bytes[to..]);
+    to / 9
+}
+
+// Compaction, with the tombstone's bytes as a slice.
+fn compact_in(
+    n: usize,
+    store: &mut [u8],
+    used: usize,
+    tombstone: &mut [u8],
+    count: usize,
+) -> Compacted
+    requires { ⌜ (n ≤ 16) × (used ≤ length (now store)) × (count ≤ 128) × (length (now tombstone) ≡ 1152) × (keysFit n (take used (now store)) ≡ true) × (ascendingDots (dotsOf (take (count * 9) (now tombstone))) ≡ true) ⌝ }
+    ensures { λ r. ⌜ Compacts n used count (now (store .entry)) (now (tombstone .entry)) (now (store .exit)) (now (tombstone .exit)) r ⌝ }
+{
+    let size = count * 9;
+    let mut marks = [0u8; 128];
+    let left = drop_keys(n, &mut store[..used], &tombstone[..size], &mut marks);
+    let dots_left = drop_dots(&mut tombstone[..size], &marks);
+    Compacted {
+        used: left,
+        count: dots_left,
+    }
+}
+
+// Drops the keys whose dots are in the tombstone, and takes the dots of dropped keys out of it. What is freed at either end becomes 0.
+pub fn compact(
+    n: usize,
+    store: &mut [u8],
+    used: usize,
+    tombstone: &mut [u8; 1152],
+    count: usize,
+) -> Compacted
+    requires { ⌜ (n ≤ 16) × (used ≤ length (now store)) × (count ≤ 128) × (length (now tombstone) ≡ 1152) × (keysFit n (take used (now store)) ≡ true) × (ascendingDots (dotsOf (take (count * 9) (now tombstone))) ≡ true) ⌝ }
+    ensures { λ r. ⌜ Compacts n used count (now (store .entry)) (now (tombstone .entry)) (now (store .exit)) (now (tombstone .exit)) r ⌝ }
+{
+    compact_in(n, store, used, tombstone, count)
+}

@@ -1,0 +1,60 @@
+-- A listing from left to right: the line that it has come to, what a live key makes of it, and what is written for the key.
+use Prim.Native.Nat.{ℕ, _+_, _-_, _*_, _≤_}
+use mathlib.Core.Bool.{Bool, true, not, cond, _&&_}
+use mathlib.Core.List.{List, _∷_}
+use mathlib.Core.Path.{_≡_}
+use lib.Dec.{eqb, ltb, isEq}
+use lib.ListN.{length, drop}
+use Rattle.wire.specs.Lists.{member}
+use Rattle.wire.specs.Bytes.{Bytes, bigEndian, compareBytes, partAt, putAt}
+use Rattle.dots.specs.declared.Dot.{Dot}
+use Rattle.dots.specs.Names.{Label}
+use Rattle.dots.specs.Dots.{compareDots}
+use Rattle.dots.specs.Wire.{dotBytes}
+use Rattle.dots.specs.Entries.{entry}
+use Rattle.listing.specs.declared.ListedKey.{ListedKey}
+use Rattle.listing.specs.declared.OpenLine.{OpenLine}
+use Rattle.store.specs.Cut.{entriesIn}
+use Rattle.store.specs.Valid.{keysFit}
+
+-- a key at a place of keys end to end: the entry that it says, and the keys after it
+pub record KeyAt (n : ℕ) (keys : Bytes) (tombstone : List Dot) (at : ℕ) (k : ListedKey) : Type 0 where
+  pub says : entriesIn n (drop at keys) ≡ entry (partAt keys (k .from) (k .to - k .from)) (k .dot) ∷ entriesIn n (drop (k .end) keys)
+  pub live-is : k .live ≡ not (member compareDots (k .dot) tombstone)
+  pub rest-fits : keysFit n (drop (k .end) keys) ≡ true
+  pub from-is : k .from ≡ at + n + 4
+  pub to-is : k .to + 11 ≡ k .end
+  pub low : at + n + 16 ≤ k .end
+  pub high : k .end ≤ at + n + 47
+  pub within : k .end ≤ length keys
+
+-- the label of the line, which stands in the keys
+abbrev pub lineLabel : Bytes → OpenLine → Label
+lineLabel keys l = partAt keys (l .from) (l .to - l .from)
+
+-- no line is open yet
+abbrev pub noLine : OpenLine
+noLine = record { from = 0; to = 0; count = 0; bytes = 0; labels = 0 }
+
+-- one dot more
+abbrev pub longerLine : OpenLine → OpenLine
+longerLine l = record { from = l .from; to = l .to; count = l .count + 1; bytes = l .bytes + 9; labels = l .labels }
+
+-- a new line with one dot: label length, label, two bytes and nine
+abbrev pub newLine : OpenLine → ℕ → ℕ → OpenLine
+newLine l from to = record { from = from; to = to; count = 1; bytes = l .bytes + (to - from) + 12; labels = l .labels + 1 }
+
+-- whether a label is that of the open line
+unfoldable pub isOpen : Bytes → OpenLine → Label → Bool
+isOpen keys l label = ltb 0 (l .count) && isEq (compareBytes (lineLabel keys l) label)
+
+unfoldable pub nextLine : Bytes → OpenLine → ℕ → ℕ → OpenLine
+nextLine keys l from to = cond (isOpen keys l (partAt keys from (to - from))) (longerLine l) (newLine l from to)
+
+-- before the first dot of a line that ends at a place: the length of its label, and the label
+unfoldable pub labelWritten : Bytes → ℕ → ℕ → Label → Bytes
+labelWritten out end count label = cond (eqb count 1) (putAt out (end - 12 - length label) (length label ∷ label)) out
+
+-- the last dot of a line that ends at a place, and the number of its dots
+unfoldable pub dotWritten : Bytes → ℕ → ℕ → Label → Dot → Bytes
+dotWritten out end count label dot = putAt (putAt (labelWritten out end count label) (end - 9 * count - 2) (bigEndian 2 count)) (end - 9) (dotBytes dot)

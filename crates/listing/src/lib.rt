@@ -1,0 +1,193 @@
+// The listing of a label store: its size, its bytes, and whether a stretch has a live key.
+ghost use mathlib.Core.Path.{_≡_};
+ghost use mathlib.Core.Bool.{true, not};
+ghost use mathlib.Core.List.{_++_};
+ghost use Prim.Native.Nat.{_+_, _*_, _≤_, _<_};
+ghost use lib.ListN.{length, drop};
+ghost use Rattle.wire.specs.Lists.{any, member};
+ghost use Rattle.wire.specs.Bytes.{compareBytes, bigEndian};
+ghost use Rattle.dots.specs.Dots.{compareDots, ascendingDots};
+ghost use Rattle.dots.specs.Wire.{dotsOf};
+ghost use Rattle.dots.specs.Entries.{Entry, entry};
+ghost use Rattle.store.specs.Cut.{entriesIn};
+ghost use Rattle.store.specs.Valid.{keysFit};
+ghost use Rattle.listing.specs.Listing.{linesOfLive, listingBytes};
+ghost use lib.Dec.{isEq};
+ghost use Rattle.listing.specs.Writing.{KeyAt, nextLine, labelWritten, dotWritten};
+
+// How many bytes a listing takes, and how many labels it has.
+pub struct ListingSize {
+    pub bytes: usize,
+    pub labels: usize,
+}
+
+// ---- listing
+
+// The line that a listing has come to: where its label stands in the keys, how many dots it has,
+// and how many bytes and labels the listing has with it.
+struct OpenLine {
+    from: usize,
+    to: usize,
+    count: usize,
+    bytes: usize,
+    labels: usize,
+}
+
+// A key of a walk over keys: where its label stands, where it ends, its dot, and whether that is not in the tombstone.
+struct ListedKey {
+    from: usize,
+    to: usize,
+    end: usize,
+    dot: dots::Dot,
+    live: bool,
+}
+
+// The key at a place.
+fn listed_key(n: usize, keys: &[u8], tombstone: &[u8], at: usize) -> ListedKey
+    requires { ⌜ (n ≤ 16) × (at < length (now keys)) × (keysFit n (drop at (now keys)) ≡ true) × (ascendingDots (dotsOf (now tombstone)) ≡ true) ⌝ }
+    ensures { λ r. ⌜ KeyAt n (now (keys .entry)) (dotsOf (now (tombstone .entry))) at r ⌝ }
+{
+    let end = at + store::key_length(n, &keys[at..]);
+    let dot = store::key_dot(&keys[at..end]);
+    let dead = contexts::holds_dot(tombstone, dot);
+    ListedKey {
+        from: at + n + 4,
+        to: end - 11,
+        end,
+        dot,
+        live: !dead,
+    }
+}
+
+// Whether some key's dot is not in the tombstone.
+pub fn any_live(n: usize, keys: &[u8], tombstone: &[u8]) -> bool
+    requires { ⌜ (n ≤ 16) × (keysFit n (now keys) ≡ true) × (ascendingDots (dotsOf (now tombstone)) ≡ true) ⌝ }
+    ensures { λ r. ⌜ r ≡ any (λ (e : Entry). not (member compareDots (e .dot) (dotsOf (now (tombstone .entry))))) (entriesIn n (now (keys .entry))) ⌝ }
+{
+    let mut at: usize = 0;
+    while at < keys.len() {
+        let stored = listed_key(n, keys, tombstone, at);
+        if stored.live {
+            return true;
+        }
+        at = stored.end;
+    }
+    false
+}
+
+// Whether two labels are the same.
+fn same_label(a: &[u8], b: &[u8]) -> bool
+    ensures { λ r. ⌜ r ≡ isEq (compareBytes (now (a .entry)) (now (b .entry))) ⌝ }
+{
+    let starts = search::starts_with(a, b);
+    (a.len() == b.len()) & starts
+}
+
+// The line after a live key with the label from a place of the keys to another:
+// one dot more where the label is the line's, else a new line.
+fn next_line(keys: &[u8], line: OpenLine, from: usize, to: usize) -> OpenLine
+    requires { ⌜ (length (now keys) ≤ 65536) × (line .from ≤ line .to) × (line .to ≤ length (now keys)) × (from ≤ to) × (to ≤ length (now keys)) × (line .count ≤ 65536) × (line .bytes ≤ 65536) × (line .labels ≤ 65536) ⌝ }
+    ensures { λ r. ⌜ r ≡ nextLine (now (keys .entry)) line from to ⌝ }
+{
+    let first = line.from;
+    let last = line.to;
+    let same = same_label(&keys[first..last], &keys[from..to]);
+    if (0 < line.count) & same {
+        return OpenLine {
+            from: first,
+            to: last,
+            count: line.count + 1,
+            bytes: line.bytes + 9,
+            labels: line.labels,
+        };
+    }
+    OpenLine {
+        from,
+        to,
+        count: 1,
+        bytes: line.bytes + (to - from) + 12,
+        labels: line.labels + 1,
+    }
+}
+
+// How long the listing is, and how many labels it has.
+pub fn listing_size(n: usize, keys: &[u8], tombstone: &[u8]) -> ListingSize
+    requires { ⌜ (n ≤ 16) × (length (now keys) ≤ 65536) × (keysFit n (now keys) ≡ true) × (ascendingDots (dotsOf (now tombstone)) ≡ true) ⌝ }
+    ensures { λ r. ⌜ (r .bytes ≡ length (listingBytes (linesOfLive (dotsOf (now (tombstone .entry))) (entriesIn n (now (keys .entry)))))) × (r .labels ≡ length (linesOfLive (dotsOf (now (tombstone .entry))) (entriesIn n (now (keys .entry))))) ⌝ }
+{
+    let mut line = OpenLine {
+        from: 0,
+        to: 0,
+        count: 0,
+        bytes: 0,
+        labels: 0,
+    };
+    let mut at: usize = 0;
+    while at < keys.len() {
+        let key = listed_key(n, keys, tombstone, at);
+        if key.live {
+            line = next_line(keys, line, key.from, key.to);
+        }
+        at = key.end;
+    }
+    ListingSize {
+        bytes: line.bytes,
+        labels: line.labels,
+    }
+}
+
+// A number in 2 bytes.
+fn count_bytes(n: usize) -> [u8; 2]
+    requires { ⌜ n < 65536 ⌝ }
+    ensures { λ r. ⌜ r ≡ bigEndian 2 n ⌝ }
+{
+    [(n / 256) as u8, (n % 256) as u8]
+}
+
+// Before the first dot of a line that ends at a place, writes the length of its label and the label.
+fn write_label(out: &mut [u8], end: usize, count: usize, label: &[u8])
+    requires { ⌜ (length (now label) < 256) × (length (now label) + 12 ≤ end) × (end ≤ length (now out)) ⌝ }
+    ensures { λ _. ⌜ now (out .exit) ≡ labelWritten (now (out .entry)) end count (now (label .entry)) ⌝ }
+{
+    if count != 1 {
+        return;
+    }
+    let size = [label.len() as u8];
+    let next = moves::put(out, end - 12 - label.len(), &size);
+    moves::put(out, next, label);
+}
+
+// Writes the last dot of a line that ends at a place, the number of its dots, and before the first dot the label.
+fn write_dot(out: &mut [u8], end: usize, count: usize, label: &[u8], dot: dots::Dot)
+    requires { ⌜ (length (now label) < 256) × (1 ≤ count) × (count < 65536) × (length (now label) + 3 + 9 * count ≤ end) × (end ≤ length (now out)) ⌝ }
+    ensures { λ _. ⌜ now (out .exit) ≡ dotWritten (now (out .entry)) end count (now (label .entry)) dot ⌝ }
+{
+    write_label(out, end, count, label);
+    moves::put(out, end - 9 * count - 2, &count_bytes(count));
+    moves::put(out, end - 9, &dots::dot_bytes(dot));
+}
+
+// Writes the listing at the front of out; the rest keeps its values.
+pub fn write_listing(n: usize, keys: &[u8], tombstone: &[u8], out: &mut [u8])
+    requires { ⌜ (n ≤ 16) × (length (now keys) ≤ 65536) × (keysFit n (now keys) ≡ true) × (ascendingDots (dotsOf (now tombstone)) ≡ true) × (length (listingBytes (linesOfLive (dotsOf (now tombstone)) (entriesIn n (now keys)))) ≤ length (now out)) ⌝ }
+    ensures { λ _. ⌜ now (out .exit) ≡ listingBytes (linesOfLive (dotsOf (now (tombstone .entry))) (entriesIn n (now (keys .entry)))) ++ drop (length (listingBytes (linesOfLive (dotsOf (now (tombstone .entry))) (entriesIn n (now (keys .entry)))))) (now (out .entry)) ⌝ }
+{
+    let mut line = OpenLine {
+        from: 0,
+        to: 0,
+        count: 0,
+        bytes: 0,
+        labels: 0,
+    };
+    let mut at: usize = 0;
+    while at < keys.len() {
+        let key = listed_key(n, keys, tombstone, at);
+        if key.live {
+            let from = key.from;
+            let to = key.to;
+            line = next_line(keys, line, from, to);
+            write_dot(out, line.bytes, line.count, &keys[from..to], key.dot);
+        }
+        at = key.end;
+    }
+}

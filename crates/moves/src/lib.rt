@@ -1,0 +1,90 @@
+// Bytes written and moved inside a buffer.
+ghost use mathlib.Core.Path.{_≡_};
+ghost use mathlib.Core.List.{_++_};
+ghost use Prim.Native.Nat.{_+_, _-_, _≤_};
+ghost use lib.ListN.{length, take, drop, replicate};
+ghost use Rattle.wire.specs.Bytes.{putAt, insertedAt, droppedAt};
+
+// ---- writing and moving
+
+// Puts src into out at a place. Returns the place after it.
+pub fn put(out: &mut [u8], at: usize, src: &[u8]) -> usize
+    requires { ⌜ at + length (now src) ≤ length (now out) ⌝ }
+    ensures { λ r. ⌜ (r ≡ at + length (now (src .entry))) × (now (out .exit) ≡ putAt (now (out .entry)) at (now (src .entry))) ⌝ }
+{
+    let end = at + src.len();
+    bytes::copy(src, &mut out[at..end]);
+    end
+}
+
+// Moves all but the last `by` bytes of s up by `by`, in place; the first `by` keep their values.
+fn shift_up(s: &mut [u8], by: usize)
+    requires { ⌜ by ≤ length (now s) ⌝ }
+    ensures { λ _. ⌜ now (s .exit) ≡ take by (now (s .entry)) ++ take (length (now (s .entry)) - by) (now (s .entry)) ⌝ }
+{
+    let mut i = s.len() - by;
+    while 0 < i {
+        i -= 1;
+        s[i + by] = s[i];
+    }
+}
+
+// Moves all but the first `by` bytes of s down by `by`, in place; the last `by` keep their values.
+pub fn shift_down(s: &mut [u8], by: usize)
+    requires { ⌜ by ≤ length (now s) ⌝ }
+    ensures { λ _. ⌜ now (s .exit) ≡ drop by (now (s .entry)) ++ drop (length (now (s .entry)) - by) (now (s .entry)) ⌝ }
+{
+    let left = s.len() - by;
+    let mut i = 0;
+    while i < left {
+        s[i] = s[i + by];
+        i += 1;
+    }
+}
+
+// Sets all of s to 0.
+pub fn clear(s: &mut [u8])
+    ensures { λ _. ⌜ now (s .exit) ≡ replicate (length (now (s .entry))) 0 ⌝ }
+{
+    let mut i = 0;
+    while i < s.len() {
+        s[i] = 0;
+        i += 1;
+    }
+}
+
+// Puts the piece before the bytes of s, which move up; the last ones, as many as the piece has, are lost.
+fn insert_front(s: &mut [u8], piece: &[u8])
+    requires { ⌜ length (now piece) ≤ length (now s) ⌝ }
+    ensures { λ _. ⌜ now (s .exit) ≡ now (piece .entry) ++ take (length (now (s .entry)) - length (now (piece .entry))) (now (s .entry)) ⌝ }
+{
+    shift_up(s, piece.len());
+    bytes::copy(piece, s);
+}
+
+// Inserts a piece at a place of the first `used` bytes; what follows it there moves up, and the rest keeps its values.
+pub fn insert_piece(s: &mut [u8], used: usize, at: usize, piece: &[u8])
+    requires { ⌜ (at ≤ used) × (used + length (now piece) ≤ length (now s)) ⌝ }
+    ensures { λ _. ⌜ now (s .exit) ≡ insertedAt (now (s .entry)) used at (now (piece .entry)) ⌝ }
+{
+    let end = used + piece.len();
+    insert_front(&mut s[at..end], piece);
+}
+
+// Drops the first n bytes of s; the others move down, and the freed bytes at the end become 0.
+fn drop_front(s: &mut [u8], n: usize)
+    requires { ⌜ n ≤ length (now s) ⌝ }
+    ensures { λ _. ⌜ now (s .exit) ≡ drop n (now (s .entry)) ++ replicate n 0 ⌝ }
+{
+    shift_down(s, n);
+    let kept = s.len() - n;
+    clear(&mut s[kept..]);
+}
+
+// Drops n bytes at a place of the first `used`; what follows them there moves down, the freed bytes become 0, and the rest keeps its values.
+pub fn drop_piece(s: &mut [u8], used: usize, at: usize, n: usize)
+    requires { ⌜ (at + n ≤ used) × (used ≤ length (now s)) ⌝ }
+    ensures { λ _. ⌜ now (s .exit) ≡ droppedAt (now (s .entry)) used at n ⌝ }
+{
+    drop_front(&mut s[at..used], n);
+}
