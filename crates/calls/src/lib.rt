@@ -1,4 +1,5 @@
-// The calls of a controller as definitions over its state: the state, what a call gives; specs/ has the results of the seven calls and demand 3.
+// The calls of a controller as definitions, in specs/, with demand 3 about them; here the state and what a call gives.
+
 // A set name: its first len bytes; the others are 0.
 pub struct SetName {
     pub bytes: [u8; 16],

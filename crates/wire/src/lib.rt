@@ -1,4 +1,4 @@
-// Bytes: their order, numbers in bytes, and pieces moved inside a lent buffer.
+// Bytes: the definitions of their order, of numbers in them and of pieces moved inside a buffer; code that reads bytes and numbers.
 ghost use mathlib.Core.Path.{_≡_};
 ghost use Prim.Native.Nat.{_+_, _^_, _≤_, _<_};
 ghost use lib.ListN.{length};
