@@ -38,7 +38,8 @@ pub struct KeyRead {
 
 // ---- the types
 
-fn type_byte(kind: KeyKind) -> u8
+// The byte of a type.
+pub fn type_byte(kind: KeyKind) -> u8
     ensures { λ r. ⌜ r ≡ typeByte kind ⌝ }
 {
     match kind {
@@ -50,7 +51,7 @@ fn type_byte(kind: KeyKind) -> u8
 }
 
 // The type of a type byte; whether it is one at all is tested apart.
-fn kind_of(byte: u8) -> KeyKind
+pub fn kind_of(byte: u8) -> KeyKind
     ensures { λ r. ⌜ r ≡ kindOf byte ⌝ }
 {
     if byte == b'c' {

@@ -1,0 +1,87 @@
+-- A call on bytes that are no block leaves what they say; on a block it leaves the controller's result, packed. Assumes nothing.
+use denote.Ref.{RefT}
+use mathlib.Core.Path.{_≡_, refl, ap, _∙_}
+use mathlib.Core.Bool.{Bool, false}
+use Prim.Native.Nat.{ℕ}
+use lib.ListN.{length}
+use borrow.Author.Tests.{eq-eqb, ne-eqb}
+use Rattle.wire.specs.Bytes.{Bytes, IsPart}
+use Rattle.dots.specs.Answer.{numberOf}
+use Rattle.dots.specs.declared.Answer.the-variants.{Damaged}
+use Rattle.calls.specs.declared.State.{State}
+use Rattle.calls.specs.declared.SetUp.{SetUp}
+use Rattle.calls.specs.declared.Outcome.{Outcome}
+use Rattle.calls.specs.declared.Listed.{Listed}
+use Rattle.calls.specs.Calls.{Result, notLooked, setUp, lookupResult}
+use Rattle.calls.specs.Promise as controller
+use Rattle.capi.specs.Block.{blockSize, stateBytes, stateIn}
+use Rattle.capi.specs.Left.{packed, noBlock, onBlock, lookupLeft}
+use Rattle.capi.specs.Promise.{SetsUp, Leaves, Changes, Lists, LooksUp}
+
+-- ---- bytes that are no block
+
+module _ (block : Bytes) (other : length block ≡ blockSize → ⊥) where
+  module _ (store out : Bytes) (call : State → Result) where
+    none : onBlock block store out call ≡ noBlock block store out
+    unfolding onBlock
+    none = rw (ne-eqb (length block) blockSize other)
+
+    pub not-left : Leaves (onBlock block store out call) block store out 0 1
+    not-left = rw none (record { answered = refl; block-is = refl; state-is = refl; store-is = refl; out-is = refl; written-is = refl })
+
+    pub not-changed : Changes (onBlock block store out call) block store 1
+    not-changed = rw none (record { answered = refl; block-is = refl; state-is = refl; store-is = refl })
+
+    pub not-listed : Lists (onBlock block store out call) out 0 0 1
+    not-listed = rw none (record { answered = refl; out-is = refl; written-is = refl; labels-are = refl })
+
+  pub not-set-up : (actor : ℕ) (name : Bytes) → SetsUp actor name block block 1
+  not-set-up actor name = let none = ne-eqb (length block) blockSize other in record { answered = rw none; block-is = rw none; state-is = rw none }
+
+  pub not-looked-up : (store found : RefT Bytes) (label : Bytes) → IsPart store 0 0 found → LooksUp block store label found false 1
+  unfolding lookupLeft
+  not-looked-up store found label part =
+      let is : lookupLeft block (store .now) label ≡ notLooked Damaged = rw (ne-eqb (length block) blockSize other) in
+      record { answered = rw is; listed-is = rw is; stretch-is = rw is part }
+
+-- ---- blocks
+
+module _ (block : Bytes) (size : length block ≡ blockSize) where
+  pub set-up : (actor : ℕ) (name : Bytes) (done : SetUp) (after : Bytes) (r : ℕ) → done ≡ setUp actor name → (after ≡ stateBytes (done .state)) × (stateIn after ≡ done .state) → r ≡ numberOf (done .answer) → SetsUp actor name block after r
+  set-up actor name done after r e f g =
+      let some = eq-eqb (length block) blockSize size in
+      record { answered = rw (some, ← e) g; block-is = rw (some, ← e) (f .0); state-is = rw (some, ← e) (f .1) }
+
+  module _ (st : State) (unpacked : st ≡ stateIn block) where
+    pub looked-up : (store found : RefT Bytes) (label : Bytes) (listed : Bool) (r : ℕ) → controller.LooksUp st store label r listed found → LooksUp block store label found listed r
+    unfolding lookupLeft
+    looked-up store found label listed r looks =
+        let is : lookupLeft block (store .now) label ≡ lookupResult st (store .now) label = rw (eq-eqb (length block) blockSize size, unpacked) in
+        record { answered = rw is (looks .answered); listed-is = rw is (looks .listed-is); stretch-is = rw is (looks .stretch-is) }
+
+    module _ (store out : Bytes) (call : State → Result) where
+      some : onBlock block store out call ≡ packed (call st)
+      unfolding onBlock
+      some = rw (eq-eqb (length block) blockSize size, unpacked)
+
+      pub listed : (out′ : Bytes) (r : ℕ) (done : Listed) → controller.Lists (call st) out′ done → r ≡ numberOf (done .answer) → Lists (onBlock block store out call) out′ (done .written) (done .labels) r
+      listed out′ r done lists number = rw some (record {
+        answered = number ∙ ap numberOf (lists .answered);
+        out-is = lists .out-is;
+        written-is = lists .written-is;
+        labels-are = lists .labels-are;
+      })
+
+      module _ (after store′ out′ : Bytes) (r : ℕ) (done : Outcome) (leaves : controller.Leaves (call st) store′ out′ done) (state : (after ≡ stateBytes (done .state)) × (stateIn after ≡ done .state)) (number : r ≡ numberOf (done .answer)) where
+        pub left : Leaves (onBlock block store out call) after store′ out′ (done .written) r
+        left = rw some (record {
+          answered = number ∙ ap numberOf (leaves .answered);
+          block-is = state .0 ∙ ap stateBytes (leaves .state-is);
+          state-is = state .1 ∙ leaves .state-is;
+          store-is = leaves .store-is;
+          out-is = leaves .out-is;
+          written-is = leaves .written-is;
+        })
+
+        pub changed : Changes (onBlock block store out call) after store′ r
+        changed = record { answered = left .answered; block-is = left .block-is; state-is = left .state-is; store-is = left .store-is }

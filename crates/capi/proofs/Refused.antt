@@ -1,0 +1,70 @@
+-- A refused call keeps every lent byte, those of the block too, and its counts are 0. Assumes nothing.
+use mathlib.Core.Path.{_≡_, refl}
+use mathlib.Core.Bool.{Bool, true, false}
+use mathlib.Core.List.{[]}
+use lib.Dec.{eqb}
+use lib.ListN.{length}
+use borrow.Author.Tests.{eqb-true}
+use Rattle.wire.specs.Bytes.{Bytes, AreBytes}
+use Rattle.dots.specs.Answer.{numberOf, Refusals, firstOf}
+use Rattle.calls.specs.declared.State.{State}
+use Rattle.calls.specs.Calls.{Result, decided, ownAddRefusals, ownAddDone, ownAddResult, takeInRefusals, takeInDone, takeInResult, ownRemoveRefusals, ownRemoveDone, ownRemoveResult, listRefusals, listDone, listResult, compactRefusals, compactDone, compactResult}
+use Rattle.capi.specs.Block.{blockSize, stateIn}
+use Rattle.capi.specs.Left.{Left, isBlock, onBlock, ownAddLeft, ownRemoveLeft, takeInLeft, listLeft, compactLeft}
+use Rattle.capi.proofs.Blocks.{bytes-in-state}
+
+pub record Kept (left : Left) (block store out : Bytes) : Type 0 where
+  pub block-is : left .block ≡ block
+  pub store-is : left .store ≡ store
+  pub out-is : left .out ≡ out
+  pub written-is : left .written ≡ 0
+  pub labels-are : left .labels ≡ 0
+
+abbrev Refused : Left → Type 0
+Refused left = left .number ≡ 0 → ⊥
+
+module _ (block store out : Bytes) (small : AreBytes block) (rs : State → Refusals) (done : State → Result) (accepts : (st : State) → numberOf (done st .answer) ≡ 0) where
+  abbrev left : Left
+  left = onBlock block store out (λ st. decided st store out (rs st) (done st))
+
+  by-answer : (b : Bool) → isBlock block ≡ true → eqb (numberOf (firstOf (rs (stateIn block)))) 0 ≡ b → Refused left → Kept left block store out
+  unfolding onBlock
+  by-answer true size e r = absurd (r (rw (size, e) (accepts (stateIn block))))
+  by-answer false size e r = rw (size, e) (record {
+    block-is = bytes-in-state block (eqb-true (length block) blockSize size) small;
+    store-is = refl;
+    out-is = refl;
+    written-is = refl;
+    labels-are = refl;
+  })
+
+  by-size : (b : Bool) → isBlock block ≡ b → Refused left → Kept left block store out
+  unfolding onBlock
+  by-size true size r = by-answer (eqb (numberOf (firstOf (rs (stateIn block)))) 0) size refl r
+  by-size false size r = rw size (record { block-is = refl; store-is = refl; out-is = refl; written-is = refl; labels-are = refl })
+
+  pub refused-keeps : Refused left → Kept left block store out
+  refused-keeps = by-size (isBlock block) refl
+
+module _ (block store out : Bytes) (small : AreBytes block) where
+  pub own-remove-kept : (context : Bytes) → Refused (ownRemoveLeft block store context out) → Kept (ownRemoveLeft block store context out) block store out
+  unfolding ownRemoveResult
+  own-remove-kept context =
+      refused-keeps block store out small (λ (st : State). ownRemoveRefusals st store context out) (λ (st : State). ownRemoveDone st store context out) (λ st. refl)
+
+  pub own-add-kept : (label context : Bytes) → Refused (ownAddLeft block store label context out) → Kept (ownAddLeft block store label context out) block store out
+  unfolding ownAddResult
+  own-add-kept label context =
+      refused-keeps block store out small (λ (st : State). ownAddRefusals st store label context out) (λ (st : State). ownAddDone st store label context out) (λ st. refl)
+
+  pub list-kept : Refused (listLeft block store out) → Kept (listLeft block store out) block store out
+  unfolding listResult
+  list-kept = refused-keeps block store out small (λ (st : State). listRefusals st store out) (λ (st : State). listDone st store out) (λ st. refl)
+
+pub take-in-kept : (block store message : Bytes) → AreBytes block → Refused (takeInLeft block store message) → Kept (takeInLeft block store message) block store []
+unfolding takeInResult
+take-in-kept block store message small = refused-keeps block store [] small (λ (st : State). takeInRefusals st store message) (λ (st : State). takeInDone st store message) (λ st. refl)
+
+pub compact-kept : (block store : Bytes) → AreBytes block → Refused (compactLeft block store) → Kept (compactLeft block store) block store []
+unfolding compactResult
+compact-kept block store small = refused-keeps block store [] small (λ (st : State). compactRefusals st store) (λ (st : State). compactDone st store) (λ st. refl)

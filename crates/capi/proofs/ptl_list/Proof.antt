@@ -1,0 +1,35 @@
+-- Bytes that are no block, or the listing.
+use Rattle.calls.specs.declared.State.{State}
+use Rattle.calls.specs.Calls.{listResult}
+use Rattle.capi.proofs.Calls.{not-listed, listed}
+use borrow.Author.Needs.{needs}
+use Rattle.capi.proofs.ptl_list.Statement.{statement}
+use Rattle.capi.proofs.ptl_list.Tie as tie
+
+returns : tie.Need-returns
+returns c = let s = c .before .before .before .before in not-listed (s .args .state .now) (c .if1 .taken) (s .args .store .now) (s .args .out .now) (λ (st : State). listResult st (s .args .store .now) (s .args .out .now))
+
+unpack-requires : tie.Need-unpack-requires
+unpack-requires c κs = search needs
+
+list-requires : tie.Need-list-requires
+list-requires c κs = search needs
+
+number-of-requires : tie.Need-number-of-requires
+number-of-requires c κs = search needs
+
+same-length : tie.Need-same-length
+same-length c = search needs
+
+returns-2 : tie.Need-returns-2
+returns-2 c =
+    let s = c .before .before .before .before .before .before .before .before .before .before in
+    let call = c .before .before .before in
+    let unpacked = call .before .before in
+    listed (s .args .state .now) (unpacked .before .if1 .left) (unpacked .unpack .result) (unpacked .unpack .ensures) (s .args .store .now) (s .args .out .now) (λ (st : State). listResult st (s .args .store .now) (s .args .out .now))
+    _ _ (call .list .result) (call .list .ensures) (c .number-of .ensures)
+
+pub ptl-list-spec : {M : Type 1} → statement M
+ptl-list-spec =
+    tie.close
+    (tie.spec returns unpack-requires list-requires number-of-requires same-length returns-2)

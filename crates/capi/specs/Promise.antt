@@ -1,0 +1,82 @@
+-- What each call promises: one record that equates the answer's number, every lent byte and the counts with what the call leaves.
+use denote.Ref.{RefT}
+use Prim.Native.Nat.{ℕ}
+use mathlib.Core.Bool.{Bool, cond}
+use mathlib.Core.Path.{_≡_}
+use mathlib.Core.List.{_++_}
+use lib.ListN.{length, drop}
+use Rattle.wire.specs.declared.Span.{Span}
+use Rattle.wire.specs.Bytes.{Bytes, IsPart}
+use Rattle.dots.specs.Answer.{numberOf}
+use Rattle.dots.specs.declared.Answer.the-variants.{Damaged}
+use Rattle.keys.specs.declared.KeyRead.{KeyRead}
+use Rattle.keys.specs.Key.{Key, keyBytes}
+use Rattle.messages.specs.declared.MessageRead.{MessageRead}
+use Rattle.calls.specs.Calls.{setUp}
+use Rattle.capi.specs.Block.{stateBytes, stateIn}
+use Rattle.capi.specs.Left.{Left, isBlock, lookupLeft, keyAnswer, keyWritten}
+
+-- set-up: a refused one leaves the block of the state that is zero throughout
+pub record SetsUp (actor : ℕ) (name before after : Bytes) (r : ℕ) : Type 0 where
+  pub answered : r ≡ cond (isBlock before) (numberOf (setUp actor name .answer)) (numberOf Damaged)
+  pub block-is : after ≡ cond (isBlock before) (stateBytes (setUp actor name .state)) before
+  pub state-is : stateIn after ≡ cond (isBlock before) (setUp actor name .state) (stateIn before)
+
+-- a call that may change block and store and puts bytes out
+pub record Leaves (left : Left) (block store out : Bytes) (written r : ℕ) : Type 0 where
+  pub answered : r ≡ left .number
+  pub block-is : block ≡ left .block
+  pub state-is : stateIn block ≡ left .state
+  pub store-is : store ≡ left .store
+  pub out-is : out ≡ left .out
+  pub written-is : written ≡ left .written
+
+-- a call that may change block and store
+pub record Changes (left : Left) (block store : Bytes) (r : ℕ) : Type 0 where
+  pub answered : r ≡ left .number
+  pub block-is : block ≡ left .block
+  pub state-is : stateIn block ≡ left .state
+  pub store-is : store ≡ left .store
+
+-- a listing
+pub record Lists (left : Left) (out : Bytes) (written labels r : ℕ) : Type 0 where
+  pub answered : r ≡ left .number
+  pub out-is : out ≡ left .out
+  pub written-is : written ≡ left .written
+  pub labels-are : labels ≡ left .labels
+
+-- a lookup: the answer's number, the yes, and the very stretch of the lent store
+pub record LooksUp (block : Bytes) (store : RefT Bytes) (label : Bytes) (found : RefT Bytes) (listed : Bool) (r : ℕ) : Type 0 where
+  pub answered : r ≡ numberOf (lookupLeft block (store .now) label .answer)
+  pub listed-is : listed ≡ lookupLeft block (store .now) label .listed
+  pub stretch-is : IsPart store (lookupLeft block (store .now) label .start) (lookupLeft block (store .now) label .end) found
+
+-- writing a key, its type given by a byte
+pub record WritesKey (byte : ℕ) (k : Key) (before after : Bytes) (written r : ℕ) : Type 0 where
+  pub answered : r ≡ numberOf (keyAnswer byte k (length before))
+  pub out-is : after ≡ cond (keyWritten byte k (length before)) (keyBytes k ++ drop (length (keyBytes k)) before) before
+  pub written-is : written ≡ cond (keyWritten byte k (length before)) (length (keyBytes k)) 0
+
+-- a stretch: its first place and its length
+pub record Spans (p : Span) (at len : ℕ) : Type 0 where
+  pub at-is : at ≡ p .at
+  pub len-is : len ≡ p .len
+
+-- reading a key
+pub record ReadsKey (read : KeyRead) (kind name-at name-len label-at label-len actor counter r : ℕ) : Type 0 where
+  pub answered : r ≡ numberOf (read .answer)
+  pub kind-is : kind ≡ read .kind
+  pub name-is : Spans (read .name) name-at name-len
+  pub label-is : Spans (read .label) label-at label-len
+  pub actor-is : actor ≡ read .actor
+  pub counter-is : counter ≡ read .counter
+
+-- reading a message
+pub record ReadsMessage (read : MessageRead) (kind name-at name-len label-at label-len actor counter context-at context-len r : ℕ) : Type 0 where
+  pub answered : r ≡ numberOf (read .answer)
+  pub kind-is : kind ≡ read .kind
+  pub name-is : Spans (read .name) name-at name-len
+  pub label-is : Spans (read .label) label-at label-len
+  pub actor-is : actor ≡ read .dot .actor .number
+  pub counter-is : counter ≡ read .dot .counter .number
+  pub context-is : Spans (read .context) context-at context-len

@@ -1,0 +1,174 @@
+/* The first day of two controllers: cases A1, A2, R1 and C1 of document 01 through the C interface, every byte compared.
+   Exits 1 on the first difference.
+
+     cc -std=c99 -Iinclude -o first_day examples/first_day.c target/staticlib/libcapi.a
+*/
+#include <stdio.h>
+#include <stdlib.h>
+#include <string.h>
+
+#include "ptl.h"
+
+/* A controller is its state block and its store. */
+struct controller {
+    uint8_t state[PTL_STATE_SIZE];
+    uint8_t store[256];
+};
+
+/* What a call put out. */
+struct output {
+    uint8_t bytes[PTL_MESSAGE_MAX];
+    size_t written;
+};
+
+static const uint8_t set_name[] = {'R', '1'};
+static const uint8_t label[] = {'B', '7'};
+
+/* Dots, each in 9 bytes; the one of counter 1 of actor 1 is the context of A2, R1 and C1. */
+#define DOT(actor, counter) actor, 0, 0, 0, 0, 0, 0, 0, counter
+static const uint8_t dot_1_1[] = {DOT(1, 1)};
+
+/* The messages, byte by byte: mark, version, kind, set name, for an add label and dot, then the context. */
+static const uint8_t add_1_1[] = {0x50, 0x54, 0x4C, 0, 1, 0x61, 2, 0x52, 0x31, 2, 0x42, 0x37, DOT(1, 1), 0};
+static const uint8_t add_1_2[] = {0x50, 0x54, 0x4C, 0, 1, 0x61, 2, 0x52, 0x31, 2, 0x42, 0x37, DOT(1, 2), 1, DOT(1, 1)};
+static const uint8_t add_2_1[] = {0x50, 0x54, 0x4C, 0, 1, 0x61, 2, 0x52, 0x31, 2, 0x42, 0x37, DOT(2, 1), 0};
+static const uint8_t remove_1_1[] = {0x50, 0x54, 0x4C, 0, 1, 0x72, 2, 0x52, 0x31, 1, DOT(1, 1)};
+
+/* The listings: label length, label, number of dots, dots. */
+static const uint8_t lists_1_1[] = {2, 0x42, 0x37, 0, 1, DOT(1, 1)};
+static const uint8_t lists_1_2[] = {2, 0x42, 0x37, 0, 1, DOT(1, 2)};
+static const uint8_t lists_both[] = {2, 0x42, 0x37, 0, 2, DOT(1, 1), DOT(2, 1)};
+static const uint8_t lists_2_1[] = {2, 0x42, 0x37, 0, 1, DOT(2, 1)};
+
+static void expect_number(const char *what, uint64_t is, uint64_t must)
+{
+    if (is != must) {
+        printf("%s: %llu, must be %llu\n", what, (unsigned long long)is, (unsigned long long)must);
+        exit(1);
+    }
+}
+
+static void expect_bytes(const char *what, const uint8_t *is, size_t is_len, const uint8_t *must, size_t must_len)
+{
+    expect_number(what, is_len, must_len);
+    for (size_t i = 0; i < must_len; i++) {
+        if (is[i] != must[i]) {
+            printf("%s: byte %zu is %02X, must be %02X\n", what, i, is[i], must[i]);
+            exit(1);
+        }
+    }
+}
+
+/* A number of the block. */
+static uint64_t number_at(const struct controller *c, size_t at)
+{
+    uint64_t n = 0;
+    for (size_t i = 0; i < 8; i++) {
+        n = n * 256 + c->state[at + i];
+    }
+    return n;
+}
+
+/* ---- calls that must be answered 0 */
+
+static void set_up(struct controller *c, uint8_t actor)
+{
+    memset(c->store, 0, sizeof c->store);
+    expect_number("set-up", ptl_set_up(actor, set_name, sizeof set_name, c->state, sizeof c->state), PTL_DONE);
+}
+
+static void add(struct controller *c, const uint8_t *context, size_t context_len, const uint8_t *message, size_t message_len)
+{
+    struct output out;
+    uint8_t answer = ptl_own_add(c->state, sizeof c->state, c->store, sizeof c->store, label, sizeof label, context, context_len, out.bytes,
+                                 sizeof out.bytes, &out.written);
+    expect_number("own add", answer, PTL_DONE);
+    expect_bytes("add message", out.bytes, out.written, message, message_len);
+}
+
+static void remove_dots(struct controller *c, const uint8_t *context, size_t context_len, const uint8_t *message, size_t message_len)
+{
+    struct output out;
+    uint8_t answer = ptl_own_remove(c->state, sizeof c->state, c->store, sizeof c->store, context, context_len, out.bytes,
+                                    sizeof out.bytes, &out.written);
+    expect_number("own remove", answer, PTL_DONE);
+    expect_bytes("remove message", out.bytes, out.written, message, message_len);
+}
+
+static void take_in(struct controller *c, const uint8_t *message, size_t message_len)
+{
+    expect_number("taking in", ptl_take_in(c->state, sizeof c->state, c->store, sizeof c->store, message, message_len), PTL_DONE);
+}
+
+static void compact(struct controller *c)
+{
+    expect_number("compaction", ptl_compact(c->state, sizeof c->state, c->store, sizeof c->store), PTL_DONE);
+}
+
+/* The listing, its number of labels, and what lookup says of B7. */
+static void lists(const struct controller *c, const uint8_t *listing, size_t listing_len, size_t labels, size_t stretch)
+{
+    struct output out;
+    size_t listed = 0;
+    uint8_t answer = ptl_list(c->state, sizeof c->state, c->store, sizeof c->store, out.bytes, sizeof out.bytes, &out.written, &listed);
+    expect_number("listing", answer, PTL_DONE);
+    expect_bytes("listing", out.bytes, out.written, listing, listing_len);
+    expect_number("number of labels", listed, labels);
+    struct ptl_bytes found = {c->store, 0};
+    bool yes = false;
+    answer = ptl_lookup(c->state, sizeof c->state, c->store, sizeof c->store, label, sizeof label, &found, &yes);
+    expect_number("lookup", answer, PTL_DONE);
+    expect_number("lookup's yes", yes, labels);
+    expect_number("stretch's place", (uint64_t)(found.at - c->store), 0);
+    expect_number("stretch's length", found.len, stretch);
+}
+
+/* Used length of the store, and the dots of the tombstone; the rest of the tombstone is zero. */
+static void holds(const struct controller *c, uint64_t used, const uint8_t *tombstone, size_t tombstone_len)
+{
+    uint8_t bytes[1152] = {0};
+    if (tombstone_len > 0) {
+        memcpy(bytes, tombstone, tombstone_len);
+    }
+    expect_number("used length", number_at(c, 1441), used);
+    expect_number("tombstone dots", number_at(c, 1433) * PTL_DOT_SIZE, tombstone_len);
+    expect_bytes("tombstone", c->state + 281, sizeof bytes, bytes, sizeof bytes);
+}
+
+int main(void)
+{
+    static struct controller one, two;
+    static const uint8_t none[1];
+
+    /* A1: fresh actor 1 adds B7, empty context. */
+    set_up(&one, 1);
+    add(&one, none, 0, add_1_1, sizeof add_1_1);
+    lists(&one, lists_1_1, sizeof lists_1_1, 1, 19);
+
+    /* A2: then adds B7 with {(1,1)}: dot (1,2), tombstone {(1,1)}, 38 bytes used; after compaction 19 used, tombstone empty. */
+    add(&one, dot_1_1, sizeof dot_1_1, add_1_2, sizeof add_1_2);
+    holds(&one, 38, dot_1_1, sizeof dot_1_1);
+    lists(&one, lists_1_2, sizeof lists_1_2, 1, 38);
+    compact(&one);
+    holds(&one, 19, none, 0);
+    lists(&one, lists_1_2, sizeof lists_1_2, 1, 19);
+
+    /* R1: fresh actor 2 takes in remove {(1,1)}, then A1's message: both answer 0, nothing stored, listing empty. */
+    set_up(&two, 2);
+    take_in(&two, remove_1_1, sizeof remove_1_1);
+    take_in(&two, add_1_1, sizeof add_1_1);
+    holds(&two, 0, none, 0);
+    lists(&two, none, 0, 0, 0);
+
+    /* C1: B7 has dots (1,1) and (2,1); remove {(1,1)}: B7 stays with (2,1). */
+    set_up(&one, 1);
+    add(&one, none, 0, add_1_1, sizeof add_1_1);
+    take_in(&one, add_2_1, sizeof add_2_1);
+    lists(&one, lists_both, sizeof lists_both, 1, 38);
+    remove_dots(&one, dot_1_1, sizeof dot_1_1, remove_1_1, sizeof remove_1_1);
+    holds(&one, 38, dot_1_1, sizeof dot_1_1);
+    lists(&one, lists_2_1, sizeof lists_2_1, 1, 38);
+
+    printf("A1, A2, R1 and C1 as in document 01\n");
+    return 0;
+}

@@ -1,0 +1,294 @@
+//! "What each call does": the seven calls on bytes. Each reads the values, works out the
+//! answer in the table's order, and only then writes state, store and output.
+
+use crate::answer::*;
+use crate::dot::{read_context, Actor, Dot};
+use crate::held::{Held, State, MOST_DOTS};
+use crate::keys::{label_keeps_rule, name_keeps_rule};
+use crate::message::{parse, Message};
+use std::collections::{BTreeMap, BTreeSet};
+
+/// What a call that may change the state gives. Refused: the state as it came, 0 written.
+#[derive(Clone, PartialEq, Eq, Debug)]
+pub struct Outcome {
+    pub answer: u8,
+    pub state: State,
+    pub written: u64,
+}
+
+/// What listing gives: bytes written and number of labels, both 0 if refused.
+#[derive(Clone, PartialEq, Eq, Debug)]
+pub struct Listed {
+    pub answer: u8,
+    pub written: u64,
+    pub labels: u64,
+}
+
+/// What lookup gives: a stretch of the lent store, and whether the label is listed.
+#[derive(Clone, PartialEq, Eq, Debug)]
+pub struct Looked {
+    pub answer: u8,
+    pub start: u64,
+    pub end: u64,
+    pub listed: bool,
+}
+
+/// Set-up: an all-zero clock, empty tombstone, used length 0; answer 5 gives the zero state.
+pub fn set_up(actor: u8, name: &[u8]) -> (u8, State) {
+    let mut state = State::zero();
+    if Actor::new(actor).is_none() || !name_keeps_rule(name) {
+        return (NAME_OR_LABEL, state);
+    }
+    state.actor = actor;
+    state.name[..name.len()].copy_from_slice(name);
+    state.name_len = name.len() as u64;
+    (DONE, state)
+}
+
+/// Own add: answers 1, 5, 6, 8, 9, 10, 11, 12, 13.
+pub fn own_add(
+    state: &State,
+    store: &mut [u8],
+    label: &[u8],
+    context: &[u8],
+    out: &mut [u8],
+) -> Outcome {
+    outcome(state, try_own_add(state, store, label, context, out))
+}
+
+/// Own remove: answers 1, 6, 8, 10, 11, 13. The store is only read.
+pub fn own_remove(state: &State, store: &[u8], context: &[u8], out: &mut [u8]) -> Outcome {
+    outcome(state, try_own_remove(state, store, context, out))
+}
+
+/// Taking in: answers 1 to 8, 10, 11, 12.
+pub fn take_in(state: &State, store: &mut [u8], message: &[u8]) -> Outcome {
+    outcome(state, try_take_in(state, store, message))
+}
+
+/// Compaction: drops every key whose dot is in the tombstone, takes the dots of dropped keys
+/// out of the tombstone and sets the freed bytes to 0. Answer 1.
+pub fn compact(state: &State, store: &mut [u8]) -> Outcome {
+    outcome(state, try_compact(state, store))
+}
+
+/// Listing: answers 1, 13.
+pub fn list(state: &State, store: &[u8], out: &mut [u8]) -> Listed {
+    match try_list(state, store, out) {
+        Ok((written, labels)) => Listed {
+            answer: DONE,
+            written,
+            labels,
+        },
+        Err(answer) => Listed {
+            answer,
+            written: 0,
+            labels: 0,
+        },
+    }
+}
+
+/// Lookup: answers 1, 5.
+pub fn lookup(state: &State, store: &[u8], label: &[u8]) -> Looked {
+    match try_lookup(state, store, label) {
+        Ok((start, end, listed)) => Looked {
+            answer: DONE,
+            start,
+            end,
+            listed,
+        },
+        Err(answer) => Looked {
+            answer,
+            start: 0,
+            end: 0,
+            listed: false,
+        },
+    }
+}
+
+fn outcome(state: &State, result: Result<(State, u64), u8>) -> Outcome {
+    let (answer, state, written) = match result {
+        Ok((state, written)) => (DONE, state, written),
+        Err(answer) => (answer, state.clone(), 0),
+    };
+    Outcome {
+        answer,
+        state,
+        written,
+    }
+}
+
+fn try_own_add(
+    state: &State,
+    store: &mut [u8],
+    label: &[u8],
+    context: &[u8],
+    out: &mut [u8],
+) -> Result<(State, u64), u8> {
+    let held = Held::read(state, store).ok_or(DAMAGED)?;
+    if !label_keeps_rule(label) {
+        return Err(NAME_OR_LABEL);
+    }
+    let context = read_context(context).ok_or(DOTS)?;
+    let taken = next_own_dot(&held);
+    if taken.is_some_and(|dot| context.contains(&dot)) {
+        return Err(DOTS);
+    }
+    check_own(&held, &context)?;
+    let taken = taken.ok_or(NO_COUNTER_LEFT)?;
+    let message = Message {
+        name: held.name.clone(),
+        add: Some((label.to_vec(), taken)),
+        context,
+    };
+    let (next, state) = merged(&held, &message, store.len())?;
+    let written = write_out(&message, out)?;
+    write_store(&next, store);
+    Ok((state, written))
+}
+
+fn try_own_remove(
+    state: &State,
+    store: &[u8],
+    context: &[u8],
+    out: &mut [u8],
+) -> Result<(State, u64), u8> {
+    let held = Held::read(state, store).ok_or(DAMAGED)?;
+    let context = read_context(context).ok_or(DOTS)?;
+    check_own(&held, &context)?;
+    let message = Message {
+        name: held.name.clone(),
+        add: None,
+        context,
+    };
+    let (_, state) = merged(&held, &message, store.len())?;
+    Ok((state, write_out(&message, out)?))
+}
+
+fn try_take_in(state: &State, store: &mut [u8], message: &[u8]) -> Result<(State, u64), u8> {
+    let held = Held::read(state, store).ok_or(DAMAGED)?;
+    let message = parse(message)?;
+    if message.name != held.name {
+        return Err(OTHER_SET);
+    }
+    check_own(&held, &message.context)?;
+    if let Some((_, dot)) = &message.add {
+        check_own(&held, &[*dot])?;
+    }
+    let (next, state) = merged(&held, &message, store.len())?;
+    write_store(&next, store);
+    Ok((state, 0))
+}
+
+fn try_compact(state: &State, store: &mut [u8]) -> Result<(State, u64), u8> {
+    let held = Held::read(state, store).ok_or(DAMAGED)?;
+    let mut next = held.clone();
+    for pair in &held.store {
+        if held.tombstone.contains(&pair.1) {
+            next.store.remove(pair);
+            next.tombstone.remove(&pair.1);
+        }
+    }
+    write_store(&next, store);
+    store[next.used()..held.used()].fill(0);
+    Ok((next.state(state.clock), 0))
+}
+
+fn try_list(state: &State, store: &[u8], out: &mut [u8]) -> Result<(u64, u64), u8> {
+    let held = Held::read(state, store).ok_or(DAMAGED)?;
+    let listed = live(&held);
+    let mut bytes = Vec::new();
+    for (label, dots) in &listed {
+        bytes.push(label.len() as u8);
+        bytes.extend(*label);
+        bytes.extend((dots.len() as u16).to_be_bytes());
+        bytes.extend(dots.iter().flat_map(|dot| dot.bytes()));
+    }
+    let place = out.get_mut(..bytes.len()).ok_or(OUTPUT_SHORT)?;
+    place.copy_from_slice(&bytes);
+    Ok((bytes.len() as u64, listed.len() as u64))
+}
+
+fn try_lookup(state: &State, store: &[u8], label: &[u8]) -> Result<(u64, u64, bool), u8> {
+    let held = Held::read(state, store).ok_or(DAMAGED)?;
+    if !label_keeps_rule(label) {
+        return Err(NAME_OR_LABEL);
+    }
+    let lengths = |wanted: fn(&[u8], &[u8]) -> bool| -> u64 {
+        let labels = held.store.iter().map(|(l, _)| l.as_slice());
+        let some = labels.filter(|l| wanted(l, label));
+        some.map(|l| held.key_length(l) as u64).sum()
+    };
+    let start = lengths(|l, asked| l < asked);
+    let end = start + lengths(|l, asked| l == asked);
+    Ok((start, end, live(&held).contains_key(label)))
+}
+
+/// Each label with at least one stored key whose dot is not in the tombstone, with those dots.
+fn live(held: &Held) -> BTreeMap<&[u8], BTreeSet<Dot>> {
+    let mut listed: BTreeMap<&[u8], BTreeSet<Dot>> = BTreeMap::new();
+    for (label, dot) in &held.store {
+        if !held.tombstone.contains(dot) {
+            listed.entry(label).or_default().insert(*dot);
+        }
+    }
+    listed
+}
+
+/// Own base + 1; none if the own base is at the largest counter.
+fn next_own_dot(held: &Held) -> Option<Dot> {
+    let counter = u64::try_from(held.clock.base(held.actor) + 1).ok()?;
+    Dot::new(held.actor.byte(), counter)
+}
+
+/// Answer 8: an offered dot of the own actor is above the own base.
+fn check_own(held: &Held, offered: &[Dot]) -> Result<(), u8> {
+    let base = held.clock.base(held.actor);
+    let above = |dot: &Dot| dot.actor == held.actor && u128::from(dot.counter.number()) > base;
+    if offered.iter().any(above) {
+        return Err(ABOVE_OWN_BASE);
+    }
+    Ok(())
+}
+
+/// Applies the context, then the add, both judged by the clock as the call began.
+/// Answers 10, 11, 12 in this order.
+fn merged(held: &Held, message: &Message, store_length: usize) -> Result<(Held, State), u8> {
+    let mut next = held.clone();
+    for dot in &message.context {
+        if held.clock.sees(*dot) {
+            next.tombstone.insert(*dot);
+        } else {
+            next.clock.insert(*dot);
+        }
+    }
+    if let Some((label, dot)) = &message.add {
+        if !held.clock.sees(*dot) {
+            next.clock.insert(*dot);
+            next.store.insert((label.clone(), *dot));
+        }
+    }
+    let rows = next.clock.rows().ok_or(OUT_OF_REACH)?;
+    if next.tombstone.len() > MOST_DOTS {
+        return Err(TOMBSTONE_FULL);
+    }
+    if next.used() > store_length {
+        return Err(STORE_FULL);
+    }
+    let state = next.state(rows);
+    Ok((next, state))
+}
+
+/// Writes the message to the front of the output, or answers 13.
+fn write_out(message: &Message, out: &mut [u8]) -> Result<u64, u8> {
+    let bytes = message.bytes();
+    let place = out.get_mut(..bytes.len()).ok_or(OUTPUT_SHORT)?;
+    place.copy_from_slice(&bytes);
+    Ok(bytes.len() as u64)
+}
+
+/// Writes the keys to the front of the store; they are known to fit.
+fn write_store(held: &Held, store: &mut [u8]) {
+    let bytes = held.store_bytes();
+    store[..bytes.len()].copy_from_slice(&bytes);
+}

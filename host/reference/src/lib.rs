@@ -1,0 +1,25 @@
+//! The label set of a pick-to-light controller, written a second time from the rules
+//! (document 01) alone, to be compared with the product call by call.
+//!
+//! Nothing here works on bytes in place. A call reads state and store into sets of dots,
+//! ordered maps and pairs of label and dot, works on those, and writes the bytes anew.
+//! `rule` computes what demand 3 speaks of, apart from all of that.
+#![forbid(unsafe_code)]
+
+mod answer;
+mod calls;
+mod clock;
+mod dot;
+mod held;
+mod keys;
+mod message;
+mod rule;
+
+pub use answer::*;
+pub use calls::{compact, list, lookup, own_add, own_remove, set_up, take_in};
+pub use calls::{Listed, Looked, Outcome};
+pub use dot::{read_context, read_dots, Actor, Counter, Dot};
+pub use held::State;
+pub use keys::{read_key, write_key, KeyKind, KeyRead};
+pub use message::{read_message, Message, MessageRead};
+pub use rule::Rule;

@@ -1,0 +1,89 @@
+//! "What demand 3 speaks of": the rule over a whole sequence of calls. It is told the
+//! arguments of the accepted calls and knows nothing of clock, tombstone or store.
+
+use crate::dot::{Actor, Dot};
+use crate::message::Message;
+use std::collections::BTreeSet;
+
+/// The two sets of the rule, and the number of own adds accepted so far.
+#[derive(Clone, PartialEq, Eq, Debug)]
+pub struct Rule {
+    actor: u8,
+    own_adds: u64,
+    pairs: BTreeSet<(Vec<u8>, Dot)>,
+    removed: BTreeSet<Dot>,
+}
+
+impl Rule {
+    /// The rule at an accepted set-up of this actor: both sets empty.
+    pub fn new(actor: u8) -> Rule {
+        assert!(Actor::new(actor).is_some(), "set-up accepts 1 to 16 only");
+        Rule {
+            actor,
+            own_adds: 0,
+            pairs: BTreeSet::new(),
+            removed: BTreeSet::new(),
+        }
+    }
+
+    /// An accepted own add. Its dot is the actor with the number of own adds accepted so far,
+    /// this one included.
+    pub fn own_add(&mut self, label: &[u8], context: &[Dot]) {
+        self.own_adds += 1;
+        let dot = Dot::new(self.actor, self.own_adds);
+        self.pairs.extend(dot.map(|dot| (label.to_vec(), dot)));
+        self.removed.extend(context);
+    }
+
+    /// An accepted own remove.
+    pub fn own_remove(&mut self, context: &[Dot]) {
+        self.removed.extend(context);
+    }
+
+    /// An accepted message, already seen or not.
+    pub fn take_in(&mut self, message: &Message) {
+        self.pairs.extend(message.add.clone());
+        self.removed.extend(&message.context);
+    }
+
+    /// The pairs not removed: what a compaction accepted next leaves in the store.
+    pub fn live_pairs(&self) -> BTreeSet<(Vec<u8>, Dot)> {
+        let mut live = self.pairs.clone();
+        live.retain(|(_, dot)| !self.removed.contains(dot));
+        live
+    }
+
+    /// The bytes of the listing and the number of its labels.
+    pub fn listing(&self) -> (Vec<u8>, u64) {
+        let live = self.live_pairs();
+        let labels: BTreeSet<&Vec<u8>> = live.iter().map(|(label, _)| label).collect();
+        let mut bytes = Vec::new();
+        for label in &labels {
+            let dots: Vec<Dot> = live
+                .iter()
+                .filter(|(of, _)| of == *label)
+                .map(|(_, dot)| *dot)
+                .collect();
+            bytes.push(label.len() as u8);
+            bytes.extend(label.iter());
+            bytes.push((dots.len() / 256) as u8);
+            bytes.push((dots.len() % 256) as u8);
+            for dot in dots {
+                bytes.push(dot.actor.byte());
+                bytes.extend(dot.counter.number().to_be_bytes());
+            }
+        }
+        (bytes, labels.len() as u64)
+    }
+
+    /// True if the listing has the label.
+    pub fn has(&self, label: &[u8]) -> bool {
+        self.live_pairs().iter().any(|(of, _)| of == label)
+    }
+
+    /// The dots that the clock sees: just those in either set.
+    pub fn seen(&self) -> BTreeSet<Dot> {
+        let added = self.pairs.iter().map(|(_, dot)| *dot);
+        added.chain(self.removed.iter().copied()).collect()
+    }
+}

@@ -1,0 +1,277 @@
+//! "When a controller says no": every answer of every call, and their order. A ladder starts
+//! with a call that breaks all rules and mends one rule a step, so the answers must ascend.
+mod common;
+use common::*;
+use reference::*;
+
+const B7: &[u8] = b"B7";
+
+/// Actor 1 with own base 1, a full tombstone of dots of actor 2, and a store of this length.
+fn crowded(store: usize) -> Bench {
+    let mut bench = Bench::with_store(1, store);
+    bench.set_row(1, 1, 0);
+    bench.set_row(2, 200, 0);
+    bench.set_tombstone(&dots_of(2, 1..=128));
+    bench
+}
+
+/// The same with a used length past the store.
+fn damaged() -> Bench {
+    let mut bench = crowded(18);
+    bench.state.used = 19;
+    bench
+}
+
+#[test]
+fn set_up_answers() {
+    let (answer, state) = set_up(16, b"0123456789abcdef");
+    assert_eq!((answer, state.actor, state.name_len), (0, 16, 16));
+    assert_eq!((state.clock, state.count, state.used), ([0; 32], 0, 0));
+    assert_eq!(set_up(1, b"R").1.name[..2], *b"R\x00");
+    let refused: [(u8, &[u8]); 5] = [
+        (0, b"R1"),
+        (17, b"R1"),
+        (1, b""),
+        (1, b"0123456789abcdefg"),
+        (1, b"R\x00"),
+    ];
+    for (actor, name) in refused {
+        assert_eq!(set_up(actor, name), (5, State::zero()));
+    }
+    assert_eq!(list(&State::zero(), &[], &mut []).answer, 1);
+}
+
+#[test]
+fn own_add_ladder() {
+    let mixed: &[(u8, u64)] = &[(3, 65), (1, 3)];
+    let own: &[(u8, u64)] = &[(1, 3), (2, 129), (3, 65)];
+    let steps: [(Bench, &[u8], &[(u8, u64)], usize, u8); 9] = [
+        (damaged(), b"", mixed, 0, 1),
+        (crowded(18), b"", mixed, 0, 5),
+        (crowded(18), B7, mixed, 0, 6),
+        (crowded(18), B7, own, 0, 8),
+        (crowded(18), B7, &own[1..], 0, 10),
+        (crowded(18), B7, &own[1..2], 0, 11),
+        (crowded(18), B7, &[], 0, 12),
+        (crowded(19), B7, &[], 21, 13),
+        (crowded(19), B7, &[], 22, 0),
+    ];
+    for (mut bench, label, context, room, answer) in steps {
+        let done = bench.add_bytes(label, &dots(context), room);
+        assert_eq!(done.0, answer);
+    }
+}
+
+#[test]
+fn own_add_at_the_largest_counter() {
+    let mut bench = Bench::new(1);
+    bench.set_row(1, LARGEST - 1, 0);
+    assert_eq!(bench.add(B7, &[(1, LARGEST)]).0, 6);
+    let (answer, message) = bench.add(B7, &[]);
+    assert_eq!(answer, 0);
+    assert_eq!(message, add_message(b"R1", B7, (1, LARGEST), &[]));
+    assert_eq!(bench.row(1), (LARGEST, 0));
+    assert_eq!(bench.add(B7, &[(3, 65)]).0, 9);
+    assert_eq!(bench.add(B7, &[(1, LARGEST)]).0, 9);
+    assert_eq!(bench.add(B7, &[(1, 0)]).0, 6);
+    assert_eq!(bench.add(b"", &[]).0, 5);
+    assert_eq!(bench.remove(&[(1, LARGEST)]).0, 0);
+    assert_eq!(bench.list(), (0, vec![], 0));
+}
+
+#[test]
+fn own_remove_ladder() {
+    let own: &[(u8, u64)] = &[(1, 2), (2, 129), (3, 65)];
+    let steps: [(Bench, &[(u8, u64)], usize, u8); 7] = [
+        (damaged(), &[(3, 65), (1, 2)], 0, 1),
+        (crowded(18), &[(3, 65), (1, 2)], 0, 6),
+        (crowded(18), own, 0, 8),
+        (crowded(18), &own[1..], 0, 10),
+        (crowded(18), &own[1..2], 0, 11),
+        (crowded(18), &[(2, 128)], 18, 13),
+        (crowded(18), &[(2, 128)], 19, 0),
+    ];
+    for (mut bench, context, room, answer) in steps {
+        assert_eq!(bench.remove_bytes(&dots(context), room).0, answer);
+    }
+}
+
+#[test]
+fn own_remove_of_nothing_writes_its_message() {
+    let mut bench = Bench::new(1);
+    let before = bench.clone();
+    assert_eq!(bench.remove(&[]), (0, b"PTL\x00\x01r\x02R1\x00".to_vec()));
+    assert_eq!(bench, before);
+    assert_eq!(bench.take(b"PTL\x00\x01r\x02R1\x00"), 0);
+    assert_eq!(bench, before);
+}
+
+#[test]
+fn take_in_ladder() {
+    let own: &[(u8, u64)] = &[(1, 3), (2, 129), (3, 65)];
+    let steps: [(Bench, Vec<u8>, u8); 12] = [
+        (damaged(), b"PTX".to_vec(), 1),
+        (crowded(18), b"PTX\x00\x02q".to_vec(), 2),
+        (crowded(18), b"PTL\x00\x02q".to_vec(), 3),
+        (crowded(18), b"PTL\x00\x01q".to_vec(), 4),
+        (crowded(18), add_message(b"R2", b"", (0, 0), &[]), 5),
+        (crowded(18), add_message(b"R2", B7, (0, 0), &[]), 6),
+        (crowded(18), add_message(b"R2", B7, (4, 1), own), 7),
+        (crowded(18), add_message(b"R1", B7, (4, 1), own), 8),
+        (crowded(18), add_message(b"R1", B7, (4, 1), &own[1..]), 10),
+        (crowded(18), add_message(b"R1", B7, (4, 1), &own[1..2]), 11),
+        (crowded(18), add_message(b"R1", B7, (4, 1), &[]), 12),
+        (crowded(19), add_message(b"R1", B7, (4, 1), &[]), 0),
+    ];
+    for (mut bench, message, answer) in steps {
+        assert_eq!(bench.take(&message), answer);
+    }
+}
+
+#[test]
+fn take_in_of_dots_that_break_their_rule() {
+    let mut bench = Bench::new(1);
+    for dot in [(0, 1), (17, 1), (2, 0)] {
+        assert_eq!(bench.take(&add_message(b"R1", B7, dot, &[])), 6);
+        assert_eq!(bench.take(&remove_message(b"R1", &[dot])), 6);
+    }
+    for context in [[(2, 1), (2, 1)], [(2, 2), (2, 1)], [(3, 1), (2, 1)]] {
+        assert_eq!(bench.take(&remove_message(b"R1", &context)), 6);
+    }
+    assert_eq!(bench.take(&add_message(b"R1", B7, (2, 1), &[(2, 1)])), 6);
+}
+
+#[test]
+fn repeated_add_applies_its_context() {
+    let mut bench = crowded(4096);
+    bench.set_tombstone(&dots_of(2, 1..=127));
+    let repeated = |context| add_message(b"R1", B7, (2, 150), context);
+    assert_eq!(bench.take(&repeated(&[(3, 65)])), 10);
+    assert_eq!(bench.take(&repeated(&[(2, 128), (2, 129)])), 11);
+    assert_eq!(bench.take(&repeated(&[(2, 128), (3, 64)])), 0);
+    assert_eq!((bench.state.count, bench.state.used), (128, 0));
+    assert_eq!(bench.row(3), (0, 1 << 63));
+    bench.store.truncate(0);
+    assert_eq!(bench.take(&repeated(&[])), 0);
+}
+
+#[test]
+fn context_bytes_that_are_no_dots() {
+    let mut bench = Bench::new(1);
+    for length in [1, 8, 10, 17] {
+        let bytes = &dots(&[(2, 1), (3, 1)])[..length];
+        assert_eq!(bench.add_bytes(B7, bytes, 300).0, 6);
+        assert_eq!(bench.remove_bytes(bytes, 300).0, 6);
+    }
+}
+
+#[test]
+fn list_answers() {
+    let mut bench = Bench::new(1);
+    bench.add(B7, &[]);
+    let mut out = [7; 15];
+    let short = list(&bench.state, &bench.store, &mut out[..13]);
+    assert_eq!((short.answer, short.written, short.labels), (13, 0, 0));
+    assert_eq!(out, [7; 15]);
+    let done = list(&bench.state, &bench.store, &mut out[..14]);
+    assert_eq!((done.answer, done.written, done.labels), (0, 14, 1));
+    assert_eq!((&out[..14], out[14]), (&entry(B7, &[(1, 1)])[..], 7));
+    bench.state.actor = 0;
+    let refused = list(&bench.state, &bench.store, &mut []);
+    assert_eq!((refused.answer, refused.written, refused.labels), (1, 0, 0));
+}
+
+#[test]
+fn lookup_answers() {
+    let mut bench = Bench::new(1);
+    for label in [&b"B7"[..], b"B8", b"B7"] {
+        bench.add(label, &[]);
+    }
+    bench.remove(&[(1, 2)]);
+    let looked = |label: &[u8]| {
+        let done = bench.lookup(label);
+        (done.answer, done.start, done.end, done.listed)
+    };
+    assert_eq!(looked(b"B7"), (0, 0, 38, true));
+    assert_eq!(looked(b"B8"), (0, 38, 57, false));
+    assert_eq!(looked(b"B"), (0, 0, 0, false));
+    assert_eq!(looked(b"B70"), (0, 38, 38, false));
+    assert_eq!(looked(b"C"), (0, 57, 57, false));
+    assert_eq!(looked(b""), (5, 0, 0, false));
+    assert_eq!(looked(b"B\x00"), (5, 0, 0, false));
+    let mut bad = bench.clone();
+    bad.state.used -= 1;
+    let refused = bad.lookup(b"");
+    assert_eq!((refused.answer, refused.start, refused.end), (1, 0, 0));
+}
+
+#[test]
+fn compact_answers() {
+    let mut bench = Bench::new(1);
+    for _ in 0..3 {
+        bench.add(B7, &[]);
+    }
+    bench.set_row(2, 9, 0);
+    bench.remove(&[(1, 2), (2, 4)]);
+    let mut bad = bench.clone();
+    bad.state.used += 1;
+    assert_eq!(bad.compact(), 1);
+    assert_eq!(bench.compact(), 0);
+    assert_eq!(bench.used(), [key(B7, (1, 1)), key(B7, (1, 3))].concat());
+    assert_eq!(bench.tombstone(), dots(&[(2, 4)]), "no key, so it stays");
+    assert_eq!(bench.store[38..57], [0; 19]);
+}
+
+#[test]
+fn freed_bytes_are_used_again() {
+    let mut bench = Bench::with_store(1, 19);
+    assert_eq!(bench.add(B7, &[]).0, 0);
+    assert_eq!(bench.add(B7, &[(1, 1)]).0, 12);
+    assert_eq!(bench.remove(&[(1, 1)]).0, 0);
+    assert_eq!(bench.compact(), 0);
+    assert_eq!(bench.store, [0; 19]);
+    assert_eq!(bench.add(B7, &[]).0, 0);
+    assert_eq!(bench.used(), key(B7, (1, 2)));
+}
+
+#[test]
+fn the_longest_store_filled_to_the_brim() {
+    let mut bench = Bench::with_store(1, 65_536);
+    bench.set_row(2, 3639, 0);
+    let keys: Vec<Vec<u8>> = (1..=3639).map(|event| key(b"B", (2, event))).collect();
+    bench.set_used(&keys.concat());
+    assert_eq!(bench.state.used, 65_502);
+    assert_eq!(bench.add(&[b'x'; 18], &[]).0, 12);
+    assert_eq!(bench.add(&[b'x'; 17], &[]).0, 0);
+    assert_eq!(bench.state.used, 65_536);
+    assert_eq!(bench.add(b"B", &[]).0, 12);
+    let wanted = [
+        entry(b"B", &dots_of(2, 1..=3639)),
+        entry(&[b'x'; 17], &[(1, 1)]),
+    ];
+    assert_eq!(bench.list(), (0, wanted.concat(), 2));
+    assert_eq!(bench.remove(&dots_of(2, 1..=16)).0, 0);
+    assert_eq!(bench.compact(), 0);
+    assert_eq!(bench.state.used, 65_536 - 16 * 18);
+}
+
+/// Compaction takes out the dots of dropped keys only. Two controllers that remove the same dot,
+/// one of them compacting in between, leave a dot without a key; 128 of these stay for good.
+#[test]
+fn removes_after_compaction_stay_in_the_tombstone() {
+    let mut bench = Bench::new(1);
+    for event in 1..=129 {
+        assert_eq!(bench.take(&add_message(b"R1", B7, (2, event), &[])), 0);
+        assert_eq!(
+            bench.remove(&[(2, event)]).0,
+            if event < 129 { 0 } else { 11 }
+        );
+        assert_eq!(bench.compact(), 0);
+        let again = bench.take(&remove_message(b"R1", &[(2, event)]));
+        assert_eq!(again, if event < 129 { 0 } else { 11 });
+    }
+    assert_eq!((bench.state.count, bench.state.used), (128, 19));
+    assert_eq!(bench.compact(), 0);
+    assert_eq!(bench.state.count, 128);
+    assert_eq!(bench.list().2, 1);
+}

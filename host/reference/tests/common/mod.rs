@@ -1,0 +1,226 @@
+//! What the tests share: a controller of set "R1" with its store, whose every call is also
+//! checked for the bytes it must leave alone; bytes written out by hand; a small generator.
+#![allow(dead_code)]
+
+use reference::*;
+
+pub const LARGEST: u64 = u64::MAX;
+/// What unused output and store bytes hold before a call.
+const FILL: u8 = 0xA5;
+
+/// A controller and its lent store.
+#[derive(Clone, PartialEq, Eq, Debug)]
+pub struct Bench {
+    pub state: State,
+    pub store: Vec<u8>,
+}
+
+impl Bench {
+    pub fn new(actor: u8) -> Bench {
+        Bench::with_store(actor, 4096)
+    }
+
+    pub fn with_store(actor: u8, length: usize) -> Bench {
+        let (answer, state) = set_up(actor, b"R1");
+        assert_eq!(answer, 0);
+        let store = vec![FILL; length];
+        Bench { state, store }
+    }
+
+    /// Sets the row of an actor.
+    pub fn set_row(&mut self, actor: u8, base: u64, window: u64) {
+        let at = 2 * (usize::from(actor) - 1);
+        self.state.clock[at] = base;
+        self.state.clock[at + 1] = window;
+    }
+
+    pub fn row(&self, actor: u8) -> (u64, u64) {
+        let at = 2 * (usize::from(actor) - 1);
+        (self.state.clock[at], self.state.clock[at + 1])
+    }
+
+    pub fn set_tombstone(&mut self, list: &[(u8, u64)]) {
+        let bytes = dots(list);
+        self.state.tombstone = [0; 1152];
+        self.state.tombstone[..bytes.len()].copy_from_slice(&bytes);
+        self.state.count = list.len() as u64;
+    }
+
+    pub fn tombstone(&self) -> Vec<u8> {
+        self.state.tombstone[..9 * self.state.count as usize].to_vec()
+    }
+
+    /// Puts key bytes in the store as its used part.
+    pub fn set_used(&mut self, used: &[u8]) {
+        self.store[..used.len()].copy_from_slice(used);
+        self.state.used = used.len() as u64;
+    }
+
+    pub fn used(&self) -> &[u8] {
+        &self.store[..self.state.used as usize]
+    }
+
+    /// Own add with an ample output; the message written.
+    pub fn add(&mut self, label: &[u8], context: &[(u8, u64)]) -> (u8, Vec<u8>) {
+        self.add_bytes(label, &dots(context), 300)
+    }
+
+    pub fn add_bytes(&mut self, label: &[u8], context: &[u8], room: usize) -> (u8, Vec<u8>) {
+        let before = self.clone();
+        let mut out = vec![FILL; room];
+        let done = own_add(&self.state, &mut self.store, label, context, &mut out);
+        self.finish(&before, &done);
+        (done.answer, written(&out, done.written))
+    }
+
+    pub fn remove(&mut self, context: &[(u8, u64)]) -> (u8, Vec<u8>) {
+        self.remove_bytes(&dots(context), 300)
+    }
+
+    pub fn remove_bytes(&mut self, context: &[u8], room: usize) -> (u8, Vec<u8>) {
+        let before = self.clone();
+        let mut out = vec![FILL; room];
+        let done = own_remove(&self.state, &self.store, context, &mut out);
+        self.finish(&before, &done);
+        assert_eq!(self.store, before.store);
+        (done.answer, written(&out, done.written))
+    }
+
+    pub fn take(&mut self, message: &[u8]) -> u8 {
+        let before = self.clone();
+        let done = take_in(&self.state, &mut self.store, message);
+        assert_eq!(done.written, 0);
+        self.finish(&before, &done);
+        done.answer
+    }
+
+    pub fn compact(&mut self) -> u8 {
+        let before = self.clone();
+        let done = compact(&self.state, &mut self.store);
+        assert_eq!(done.written, 0);
+        self.finish(&before, &done);
+        if done.answer == 0 {
+            let freed = self.state.used as usize..before.state.used as usize;
+            assert!(self.store[freed].iter().all(|b| *b == 0));
+        }
+        done.answer
+    }
+
+    /// Listing with an ample output (an entry is shorter than its keys): answer, bytes, number
+    /// of labels.
+    pub fn list(&self) -> (u8, Vec<u8>, u64) {
+        let mut out = vec![FILL; self.store.len() + 9];
+        let done = list(&self.state, &self.store, &mut out);
+        let bytes = written(&out, done.written);
+        (done.answer, bytes, done.labels)
+    }
+
+    pub fn lookup(&self, label: &[u8]) -> Looked {
+        lookup(&self.state, &self.store, label)
+    }
+
+    /// Takes over the new state and checks the bytes that the call must leave alone.
+    fn finish(&mut self, before: &Bench, done: &Outcome) {
+        self.state = done.state.clone();
+        if done.answer != 0 {
+            assert_eq!(self, before, "a refusal changes no state and no byte");
+            assert_eq!(done.written, 0);
+        } else {
+            let top = before.state.used.max(self.state.used) as usize;
+            assert_eq!(self.store[top..], before.store[top..]);
+        }
+    }
+}
+
+/// The bytes written; all the others must still hold the fill.
+pub fn written(out: &[u8], count: u64) -> Vec<u8> {
+    let (bytes, rest) = out.split_at(count as usize);
+    assert!(
+        rest.iter().all(|b| *b == FILL),
+        "output past what is written"
+    );
+    bytes.to_vec()
+}
+
+/// Nine bytes a dot, written by hand.
+pub fn dots(list: &[(u8, u64)]) -> Vec<u8> {
+    let mut bytes = Vec::new();
+    for (actor, counter) in list {
+        bytes.push(*actor);
+        bytes.extend(counter.to_be_bytes());
+    }
+    bytes
+}
+
+/// A run of dots of one actor.
+pub fn dots_of(actor: u8, counters: std::ops::RangeInclusive<u64>) -> Vec<(u8, u64)> {
+    counters.map(|counter| (actor, counter)).collect()
+}
+
+/// An add message, written by hand; nothing is checked.
+pub fn add_message(name: &[u8], label: &[u8], dot: (u8, u64), context: &[(u8, u64)]) -> Vec<u8> {
+    let mut bytes = b"PTL\x00\x01a".to_vec();
+    bytes.push(name.len() as u8);
+    bytes.extend(name);
+    bytes.push(label.len() as u8);
+    bytes.extend(label);
+    bytes.extend(dots(&[dot]));
+    bytes.push(context.len() as u8);
+    bytes.extend(dots(context));
+    bytes
+}
+
+/// A remove message, written by hand; nothing is checked.
+pub fn remove_message(name: &[u8], context: &[(u8, u64)]) -> Vec<u8> {
+    let mut bytes = b"PTL\x00\x01r".to_vec();
+    bytes.push(name.len() as u8);
+    bytes.extend(name);
+    bytes.push(context.len() as u8);
+    bytes.extend(dots(context));
+    bytes
+}
+
+/// A label key of set "R1", written by hand.
+pub fn key(label: &[u8], dot: (u8, u64)) -> Vec<u8> {
+    let mut bytes = b"\x02\x01R1\x00e".to_vec();
+    bytes.extend(label);
+    bytes.extend([0, dot.0, 0]);
+    bytes.extend(dot.1.to_be_bytes());
+    bytes
+}
+
+/// One entry of a listing, written by hand.
+pub fn entry(label: &[u8], list: &[(u8, u64)]) -> Vec<u8> {
+    let mut bytes = vec![label.len() as u8];
+    bytes.extend(label);
+    bytes.extend((list.len() as u16).to_be_bytes());
+    bytes.extend(dots(list));
+    bytes
+}
+
+/// Xorshift generator of 64 bits; the seed must not be 0.
+pub struct Xorshift(pub u64);
+
+impl Xorshift {
+    pub fn next(&mut self) -> u64 {
+        self.0 ^= self.0 << 13;
+        self.0 ^= self.0 >> 7;
+        self.0 ^= self.0 << 17;
+        self.0
+    }
+
+    /// A number below `limit`, which is at least 1.
+    pub fn below(&mut self, limit: u64) -> u64 {
+        (self.next() >> 11) % limit
+    }
+
+    /// True in about `percent` of a hundred cases.
+    pub fn chance(&mut self, percent: u64) -> bool {
+        self.below(100) < percent
+    }
+
+    /// One of the items.
+    pub fn pick<'a, T>(&mut self, items: &'a [T]) -> &'a T {
+        &items[self.below(items.len() as u64) as usize]
+    }
+}
