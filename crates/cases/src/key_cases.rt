@@ -109,8 +109,8 @@ fn code_again(case: &[u8], key: &[u8]) {
 // Compares two keys by their bytes.
 fn order(case: &[u8], first: &[u8], second: &[u8]) {
     print::text(case);
-    print::yes_or_no(b": first is lower:", wire::lower(first, second));
-    print::yes_or_no(b", second is lower:", wire::lower(second, first));
+    print::yes_or_no(b": first is lower:", search::lower(first, second));
+    print::yes_or_no(b", second is lower:", search::lower(second, first));
     print::line_end();
 }
 

@@ -31,27 +31,6 @@ fn read_pieces(case: &[u8], a: &[u8], b: &[u8], c: &[u8], d: &[u8]) {
     read(case, parts::front(&out, end));
 }
 
-// Puts a dot into out at a place, where there is room for it. Returns the place after it.
-fn append_dot(out: &mut [u8], at: usize, actor: u8, counter: u64) -> usize {
-    let dot = dots::Dot {
-        actor: dots::Actor { number: actor },
-        counter: dots::Counter { number: counter },
-    };
-    let bytes = dots::dot_bytes(dot);
-    parts::append(out, at, &bytes)
-}
-
-// Puts the dots of actor 2 with counters from 1 on into out. Returns their length.
-fn dots_of_actor_2(count: u64, out: &mut [u8]) -> usize {
-    let mut end = 0;
-    let mut i = 0;
-    while i < count {
-        i += 1;
-        end = append_dot(out, end, 2, i);
-    }
-    end
-}
-
 // Writes an add message, where its fields and out have the lengths that writing asks for. Returns its length, or 0.
 fn write_add(
     name: &[u8],
@@ -114,15 +93,15 @@ fn print_and_read(case: &[u8], length: usize, out: &[u8]) {
 // An add of B7 to R1 with this dot and an empty context.
 fn own_dot(case: &[u8], actor: u8, counter: u64) {
     let mut dot = [0u8; 9];
-    append_dot(&mut dot, 0, actor, counter);
+    parts::append_dot(&mut dot, 0, actor, counter);
     read_pieces(case, b"PTL\x00\x01a\x02R1", b"\x02B7", &dot, b"\x00");
 }
 
 // An add of B7 to R1 with dot (1,1) and a context of two dots.
 fn context_of_two(case: &[u8], actor: u8, counter: u64, next_actor: u8, next_counter: u64) {
     let mut context = [0u8; 18];
-    append_dot(&mut context, 0, actor, counter);
-    append_dot(&mut context, 9, next_actor, next_counter);
+    parts::append_dot(&mut context, 0, actor, counter);
+    parts::append_dot(&mut context, 9, next_actor, next_counter);
     read_pieces(
         case,
         b"PTL\x00\x01a\x02R1",
@@ -181,7 +160,7 @@ fn longer_buffers() {
 
 fn longest() {
     let mut context = [0u8; 144];
-    dots_of_actor_2(16, &mut context);
+    parts::append_dots(&mut context, 0, 2, 1, 16);
     let mut out = [238u8; 210];
     let length = write_add(
         b"ABCDEFGHIJKLMNOP",
@@ -257,9 +236,9 @@ fn bad_contexts() {
 
 fn adds_of_many() {
     let mut sixteen = [0u8; 144];
-    dots_of_actor_2(16, &mut sixteen);
+    parts::append_dots(&mut sixteen, 0, 2, 1, 16);
     let mut seventeen = [0u8; 153];
-    dots_of_actor_2(17, &mut seventeen);
+    parts::append_dots(&mut seventeen, 0, 2, 1, 17);
     let add = b"PTL\x00\x01a\x02R1\x02B7";
     let dot = b"\x01\x00\x00\x00\x00\x00\x00\x00\x01";
     read_pieces(b"Add with a context of 16", add, dot, b"\x10", &sixteen);
@@ -268,9 +247,9 @@ fn adds_of_many() {
 
 fn removes_of_many() {
     let mut sixteen = [0u8; 144];
-    dots_of_actor_2(16, &mut sixteen);
+    parts::append_dots(&mut sixteen, 0, 2, 1, 16);
     let mut seventeen = [0u8; 153];
-    dots_of_actor_2(17, &mut seventeen);
+    parts::append_dots(&mut seventeen, 0, 2, 1, 17);
     let remove = b"PTL\x00\x01r\x02R1";
     read_pieces(
         b"Remove with a context of 16",

@@ -23,6 +23,12 @@ pub fn byte(before: &[u8], b: u8) {
     io::print_hex(1, b as u64, 2);
 }
 
+// A word in sixteen hexadecimal digits.
+pub fn word(before: &[u8], w: u64) {
+    text(before);
+    io::print_hex(1, w, 16);
+}
+
 fn spaced_byte(b: u8) {
     byte(b" ", b);
 }

@@ -1,0 +1,105 @@
+//! The answers of the table "When a controller says no", with their numbers and words.
+
+use std::fmt;
+
+/// What a call answers. `Done` is 0; every other one is a refusal, which changes nothing.
+#[derive(Clone, Copy, PartialEq, Eq, PartialOrd, Ord, Hash, Debug)]
+#[repr(u8)]
+pub enum Answer {
+    Done = 0,
+    Damaged = 1,
+    NoMark = 2,
+    BadVersion = 3,
+    BadShape = 4,
+    BadName = 5,
+    BadDot = 6,
+    OtherSet = 7,
+    OwnAhead = 8,
+    CounterEnd = 9,
+    TooFar = 10,
+    TombstoneFull = 11,
+    StoreFull = 12,
+    OutputShort = 13,
+}
+
+impl Answer {
+    /// All answers, each at its number.
+    pub const ALL: [Answer; 14] = [
+        Answer::Done,
+        Answer::Damaged,
+        Answer::NoMark,
+        Answer::BadVersion,
+        Answer::BadShape,
+        Answer::BadName,
+        Answer::BadDot,
+        Answer::OtherSet,
+        Answer::OwnAhead,
+        Answer::CounterEnd,
+        Answer::TooFar,
+        Answer::TombstoneFull,
+        Answer::StoreFull,
+        Answer::OutputShort,
+    ];
+
+    /// The answer of this number, if there is one.
+    pub fn of_number(number: u8) -> Option<Answer> {
+        Answer::ALL.get(usize::from(number)).copied()
+    }
+
+    pub fn number(self) -> u8 {
+        self as u8
+    }
+
+    /// When the answer is given, in the table's words.
+    pub fn words(self) -> &'static str {
+        match self {
+            Answer::Done => "done",
+            Answer::Damaged => "the state is damaged, or the store is longer than 65,536",
+            Answer::NoMark => "message under 5 bytes or wrong mark",
+            Answer::BadVersion => "version other than 1",
+            Answer::BadShape => {
+                "a message's kind is unknown, its fields run past the end or bytes are left over; \
+                 or bytes given as a key are none"
+            }
+            Answer::BadName => {
+                "set name, label, or an actor given to set-up or to a key, breaks its rule"
+            }
+            Answer::BadDot => {
+                "a dot, a context or a key's counter breaks its rule, or an add's context has its \
+                 own dot"
+            }
+            Answer::OtherSet => "message is for another set",
+            Answer::OwnAhead => {
+                "an offered dot of this controller's own actor, but for the one an own add takes, \
+                 is above its own base"
+            }
+            Answer::CounterEnd => "own add with the own base at the largest counter",
+            Answer::TooFar => {
+                "among all seen and offered dots together, one lies more than 64 above its \
+                 actor's unbroken run from 1"
+            }
+            Answer::TombstoneFull => "the tombstone would pass 128 dots",
+            Answer::StoreFull => {
+                "a key must be stored and used length + key length exceeds the store"
+            }
+            Answer::OutputShort => "the output buffer is shorter than what must be written",
+        }
+    }
+
+    /// What was asked for if the answer is `Done`, else the refusal.
+    pub(crate) fn give<T>(number: u8, asked: impl FnOnce() -> T) -> Result<T, Answer> {
+        // The library gives no number outside the table; one would count as a refusal.
+        match Answer::of_number(number).unwrap_or(Answer::Damaged) {
+            Answer::Done => Ok(asked()),
+            refusal => Err(refusal),
+        }
+    }
+}
+
+impl fmt::Display for Answer {
+    fn fmt(&self, f: &mut fmt::Formatter<'_>) -> fmt::Result {
+        write!(f, "{}: {}", self.number(), self.words())
+    }
+}
+
+impl std::error::Error for Answer {}

@@ -1,0 +1,153 @@
+//! An episode: controllers of its own, a script of what was done to them, and the scenarios of a
+//! single controller. The scenario of several is in `network`.
+
+use super::damage::Damage;
+use super::moves;
+use super::random::Random;
+use super::starts::start;
+use super::tally::Tally;
+use super::trial::{Act, Step, Trial, What};
+use super::{pools, Engines};
+use crate::script::{Command, Rack, Reply};
+
+/// The controllers and the script so far, and what the whole run shares.
+pub struct Episode<'a> {
+    trial: Trial<'a>,
+    pub random: &'a mut Random,
+    tally: &'a mut Tally,
+    script: Vec<Step>,
+}
+
+impl<'a> Episode<'a> {
+    pub fn new(engines: Engines<'a>, random: &'a mut Random, tally: &'a mut Tally) -> Episode<'a> {
+        Episode {
+            trial: Trial::new(engines),
+            random,
+            tally,
+            script: Vec::new(),
+        }
+    }
+
+    /// Plays one scenario. An error says what differs, at the script's last step.
+    pub fn play(&mut self) -> Result<(), What> {
+        match self.random.below(1000) {
+            0 => self.large(),
+            1..=250 => self.network(false),
+            251..=350 => self.network(true),
+            _ => self.single(),
+        }
+    }
+
+    /// All steps so far.
+    pub fn into_script(self) -> Vec<Step> {
+        self.script
+    }
+
+    /// True when the run has had its calls.
+    pub fn is_over(&self) -> bool {
+        self.tally.left() == 0
+    }
+
+    pub fn rack(&mut self, at: usize) -> &Rack {
+        self.trial.rack(at)
+    }
+
+    /// The output of the last step.
+    pub fn out(&self) -> &[u8] {
+        self.trial.out(0)
+    }
+
+    /// A random choice about a controller.
+    pub fn choose<T>(&mut self, at: usize, choice: impl Fn(&mut Random, &Rack) -> T) -> T {
+        choice(self.random, self.trial.rack(at))
+    }
+
+    /// Takes one step and writes it down.
+    pub fn act(&mut self, rack: usize, act: Act) -> Result<Reply, What> {
+        let step = Step { rack, act };
+        let held = self.trial.held();
+        let reply = self.trial.step(&step);
+        if let (Ok(reply), Act::Command(command)) = (&reply, &step.act) {
+            if let Some(answer) = reply.answer() {
+                self.tally.count(command, answer);
+            }
+        }
+        self.tally.held(self.trial.held() - held);
+        self.script.push(step);
+        reply
+    }
+
+    /// Gives a command, with another store lent before it now and then.
+    pub fn give(&mut self, at: usize, command: Command) -> Result<Reply, What> {
+        if let Some(buffer) = self.choose(at, |random, rack| moves::lend(random, rack, &command)) {
+            self.act(at, Act::Command(buffer))?;
+        }
+        self.act(at, Act::Command(command))
+    }
+
+    /// Damages a controller, calls it, and undoes the damage in most cases.
+    pub fn damage(&mut self, at: usize) -> Result<(), What> {
+        let damage = self.choose(at, Damage::of);
+        self.acts(at, damage.acts)?;
+        for _ in 0..self.random.between(1, 3) {
+            let command = self.choose(at, |random, rack| moves::call(random, rack, true));
+            self.act(at, Act::Command(command))?;
+        }
+        match self.random.chance(85) {
+            true => self.acts(at, damage.undo),
+            false => Ok(()),
+        }
+    }
+
+    pub fn acts(&mut self, at: usize, acts: Vec<Act>) -> Result<(), What> {
+        for act in acts {
+            self.act(at, act)?;
+        }
+        Ok(())
+    }
+
+    /// One controller from a state made for it.
+    fn single(&mut self) -> Result<(), What> {
+        let keys = match self.random.below(4) {
+            0 => 0,
+            1 => self.random.below(30),
+            _ => self.random.below(8),
+        };
+        self.started(keys, 30)
+    }
+
+    /// One controller with a store of many keys.
+    fn large(&mut self) -> Result<(), What> {
+        let keys = self.random.between(500, 3500);
+        self.started(keys, 20)
+    }
+
+    fn started(&mut self, keys: usize, most: usize) -> Result<(), What> {
+        let acts = start(self.random, keys);
+        self.acts(0, acts)?;
+        for _ in 0..self.random.between(8, most) {
+            if self.is_over() {
+                return Ok(());
+            }
+            self.wild_move(0)?;
+        }
+        Ok(())
+    }
+
+    /// A call with any arguments, damage, or a set-up.
+    pub fn wild_move(&mut self, at: usize) -> Result<(), What> {
+        match self.random.below(100) {
+            0..=9 => self.damage(at),
+            10 => {
+                let actor = pools::any_actor(self.random);
+                let name = pools::any_name(self.random);
+                let setup = Command::Setup { actor, name };
+                self.act(at, Act::Command(setup)).map(drop)
+            }
+            _ => {
+                let command = self.choose(at, |random, rack| moves::call(random, rack, true));
+                self.give(at, command).map(drop)
+            }
+        }
+    }
+}

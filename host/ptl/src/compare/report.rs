@@ -1,0 +1,202 @@
+//! What a run says: how far it is, the table of answers met, and the script of a difference.
+
+use super::shrink::{shown, shrink, Shown};
+use super::tally::Tally;
+use super::trial::{Act, Step, Trial, What, FILL};
+use super::Engines;
+use crate::engine::{Engine, KeyToWrite};
+use crate::script::{command_line, hex_text, reply_line, run, Command, Poke, Rack, Reply};
+use std::io::{self, IsTerminal, Write};
+use std::time::{Duration, Instant};
+
+/// The progress line on standard error.
+pub struct Progress {
+    wanted: u64,
+    start: Instant,
+    next: Instant,
+    terminal: bool,
+}
+
+impl Progress {
+    pub fn new(wanted: u64) -> Progress {
+        let start = Instant::now();
+        Progress {
+            wanted,
+            start,
+            next: start,
+            terminal: io::stderr().is_terminal(),
+        }
+    }
+
+    /// Shows how far the run is, if it is time to: in place on a terminal, else a line at times.
+    pub fn show(&mut self, tally: &Tally) {
+        if Instant::now() < self.next {
+            return;
+        }
+        let pause = if self.terminal { 1 } else { 10 };
+        self.next = Instant::now() + Duration::from_secs(pause);
+        let end = if self.terminal { "\r" } else { "\n" };
+        eprint!("{}{end}", self.line(tally));
+    }
+
+    /// Shows it for the last time.
+    pub fn end(&self, tally: &Tally) {
+        eprintln!("{}", self.line(tally));
+    }
+
+    fn line(&self, tally: &Tally) -> String {
+        let seconds = self.start.elapsed().as_secs_f64().max(0.001);
+        let pace = tally.done() as f64 / seconds;
+        let (done, wanted) = (tally.done(), self.wanted);
+        format!("compare: {done} of {wanted} calls, {pace:.0} a second")
+    }
+}
+
+/// The table of answers met.
+pub fn table(tally: &Tally, report: &mut dyn Write) -> io::Result<()> {
+    for line in tally.lines() {
+        writeln!(report, "{line}")?;
+    }
+    Ok(())
+}
+
+/// Shrinks the script of a difference and writes it, with what either side says.
+pub fn difference(
+    engines: Engines,
+    what: What,
+    script: Vec<Step>,
+    report: &mut dyn Write,
+) -> io::Result<()> {
+    writeln!(report, "difference: {what}")?;
+    let Some(found) = shown(engines, script) else {
+        return writeln!(report, "its script does not show it again");
+    };
+    let Shown { script, what } = shrink(engines, found);
+    writeln!(report, "script: {what}, after the last line")?;
+    for step in &script {
+        for line in step_lines(step) {
+            writeln!(report, "{line}")?;
+        }
+    }
+    said(engines, &script, report)
+}
+
+/// The lines of a step.
+fn step_lines(step: &Step) -> Vec<String> {
+    let line = |command: &Command| {
+        let line = command_line(step.rack, command);
+        line.unwrap_or_else(|| bare_line(step.rack, command))
+    };
+    match &step.act {
+        Act::Command(command) => vec![line(command)],
+        Act::Keys(keys) => {
+            let bytes = keys.concat();
+            let used = Poke::Used(bytes.len() as u64);
+            let bytes = bytes.into_iter().enumerate();
+            let pokes = bytes.map(|(at, byte)| Poke::Byte(at, byte)).chain([used]);
+            pokes.map(|poke| line(&Command::Poke(poke))).collect()
+        }
+        Act::Dots(dots) => {
+            let count = Poke::Count(dots.len() as u64);
+            let slots = dots.iter().enumerate();
+            let pokes = slots.map(|(slot, dot)| Poke::Dot(slot, dot.actor.0, dot.counter.0));
+            let pokes = pokes.chain([count]);
+            pokes.map(|poke| line(&Command::Poke(poke))).collect()
+        }
+    }
+}
+
+/// A command for which the console has no line, as a comment with its arguments in hexadecimal.
+fn bare_line(rack: usize, command: &Command) -> String {
+    let arguments = match command {
+        Command::Add {
+            label,
+            context,
+            out,
+        } => format!("{} {} {out}", hex_text(label), hex_text(context)),
+        Command::Remove { context, out } => format!("{} {out}", hex_text(context)),
+        Command::Key { key, out } => format!("{} {out}", bare_key(key)),
+        _ => String::new(),
+    };
+    format!("# @{rack} {} in hexadecimal: {arguments}", command.word())
+}
+
+fn bare_key(key: &KeyToWrite) -> String {
+    format!(
+        "{:02x} {} {} {:02x} {:016x}",
+        key.kind,
+        hex_text(&key.name),
+        hex_text(&key.label),
+        key.actor,
+        key.counter
+    )
+}
+
+/// What either side says to the last line, and where their states, stores and outputs differ.
+fn said(engines: Engines, script: &[Step], report: &mut dyn Write) -> io::Result<()> {
+    let Some((last, before)) = script.split_last() else {
+        return Ok(());
+    };
+    let mut trial = Trial::new(engines);
+    for step in before {
+        let _ = trial.step(step);
+    }
+    let Act::Command(command) = &last.act else {
+        return Ok(());
+    };
+    let racks = [0, 1].map(|side| trial.side(last.rack, side).clone());
+    let sides = [0, 1].map(|side| Said::of(engines[side], racks[side].clone(), command));
+    let [product, reference] = &sides;
+    writeln!(report, "product:   {}", product.line)?;
+    writeln!(report, "reference: {}", reference.line)?;
+    if product.rack.state != reference.rack.state {
+        writeln!(report, "product:   {}", product.state_line())?;
+        writeln!(report, "reference: {}", reference.state_line())?;
+    }
+    differing_byte("state", product.block(), reference.block(), report)?;
+    differing_byte("store", &product.rack.store, &reference.rack.store, report)?;
+    differing_byte("output", &product.out, &reference.out, report)
+}
+
+/// What one side says, and what it leaves.
+struct Said {
+    line: String,
+    rack: Rack,
+    out: Vec<u8>,
+}
+
+impl Said {
+    fn of(engine: &dyn Engine, mut rack: Rack, command: &Command) -> Said {
+        let mut out = vec![FILL; command.out()];
+        let line = match run(engine, &mut rack, command, &mut out) {
+            Ok(reply) => reply_line(command, &reply, &rack, &out),
+            Err(why) => format!("? {why}"),
+        };
+        Said { line, rack, out }
+    }
+
+    fn state_line(&self) -> String {
+        reply_line(&Command::State, &Reply::Obeyed, &self.rack, &[])
+    }
+
+    fn block(&self) -> &[u8] {
+        self.rack.state.block()
+    }
+}
+
+/// The first byte in which two sides differ.
+fn differing_byte(
+    of: &str,
+    product: &[u8],
+    reference: &[u8],
+    report: &mut dyn Write,
+) -> io::Result<()> {
+    let mut bytes = product.iter().zip(reference).enumerate();
+    match bytes.find(|(_, (one, other))| one != other) {
+        Some((at, (one, other))) => writeln!(
+            report,
+            "{of} byte {at}: {one:02x} of the product, {other:02x} of the reference"
+        ),
+        None => Ok(()),
+    }
+}

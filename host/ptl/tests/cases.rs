@@ -1,0 +1,382 @@
+//! The cases of the rules ("Both sides of the line") and the slips, through the safe wrapper.
+
+use ptl::{
+    read_key, read_message, write_key, Actor, Answer, Controller, Counter, Dot, Entry, Key, Label,
+    Message, SetName, State,
+};
+
+fn r1() -> SetName {
+    SetName::from("R1")
+}
+
+fn b7() -> Label {
+    Label::from("B7")
+}
+
+fn dot(actor: u8, counter: u64) -> Dot {
+    Dot::new(Actor(actor), Counter(counter))
+}
+
+fn dots(actor: u8, counters: std::ops::RangeInclusive<u64>) -> Vec<Dot> {
+    counters.map(|counter| dot(actor, counter)).collect()
+}
+
+/// Bytes as the rules write them.
+fn bytes(hex: &str) -> Vec<u8> {
+    let pairs = hex.split_whitespace();
+    pairs
+        .map(|pair| u8::from_str_radix(pair, 16).expect("a pair of digits"))
+        .collect()
+}
+
+fn with_store(actor: u8, length: usize) -> Controller {
+    Controller::set_up(Actor(actor), &r1(), vec![0xEE; length]).expect("keeps the rules")
+}
+
+fn fresh(actor: u8) -> Controller {
+    with_store(actor, 8192)
+}
+
+fn row(controller: &Controller, actor: u8) -> (u64, u64) {
+    let state = controller.state();
+    (state.base(Actor(actor)), state.window(Actor(actor)))
+}
+
+fn listed(controller: &Controller) -> Vec<Entry> {
+    controller.list().expect("is sound").entries()
+}
+
+fn entry(label: &str, dots: &[Dot]) -> Entry {
+    Entry {
+        label: Label::from(label),
+        dots: dots.to_vec(),
+    }
+}
+
+/// The bytes of an add of set R1; nothing is checked.
+fn add(label: &[u8], added: Dot, context: &[Dot]) -> Vec<u8> {
+    let mut message = b"PTL\x00\x01a\x02R1".to_vec();
+    message.push(label.len() as u8);
+    message.extend(label);
+    message.extend(added.to_bytes());
+    message.push(context.len() as u8);
+    message.extend(ptl::dots_to_bytes(context));
+    message
+}
+
+/// The bytes of a remove of set R1; nothing is checked.
+fn remove(context: &[Dot]) -> Vec<u8> {
+    let mut message = b"PTL\x00\x01r\x02R1".to_vec();
+    message.push(context.len() as u8);
+    message.extend(ptl::dots_to_bytes(context));
+    message
+}
+
+const A1: &str = "50 54 4C 00 01 61 02 52 31 02 42 37 01 00 00 00 00 00 00 00 01 00";
+
+#[test]
+fn k1() {
+    let k1 = bytes("02 01 52 31 00 65 42 37 00 03 00 00 00 00 00 00 00 01 02");
+    let key = Key::Label {
+        name: r1(),
+        label: b7(),
+        dot: dot(3, 258),
+    };
+    assert_eq!(write_key(&key), Ok(k1.clone()));
+    assert_eq!(read_key(&k1), Ok(key));
+    assert_eq!(read_key(&k1[..18]), Err(Answer::BadShape));
+}
+
+#[test]
+fn the_other_keys() {
+    let keys = [
+        (
+            Key::Clock {
+                name: r1(),
+                actor: Actor(16),
+            },
+            "02 01 52 31 00 63 00 10 00",
+        ),
+        (
+            Key::Tombstone {
+                name: r1(),
+                actor: Actor(1),
+            },
+            "02 01 52 31 00 64 00 01 00",
+        ),
+        (Key::End { name: r1() }, "02 01 52 31 00 7A 00 00"),
+    ];
+    for (key, hex) in keys {
+        assert_eq!(write_key(&key), Ok(bytes(hex)));
+        assert_eq!(read_key(&bytes(hex)), Ok(key));
+    }
+}
+
+#[test]
+fn keys_that_break_a_rule() {
+    let key = |name: &str, actor, counter| Key::Label {
+        name: SetName::from(name),
+        label: b7(),
+        dot: dot(actor, counter),
+    };
+    assert_eq!(write_key(&key("", 3, 1)), Err(Answer::BadName));
+    assert_eq!(write_key(&key("R1", 0, 0)), Err(Answer::BadName));
+    assert_eq!(write_key(&key("R1", 17, 1)), Err(Answer::BadName));
+    assert_eq!(write_key(&key("R1", 3, 0)), Err(Answer::BadDot));
+    let longest = Key::Label {
+        name: SetName(vec![b'n'; 16]),
+        label: Label(vec![b'x'; 32]),
+        dot: dot(16, u64::MAX),
+    };
+    assert_eq!(write_key(&longest).map(|key| key.len()), Ok(63));
+}
+
+#[test]
+fn m1() {
+    let m1 = bytes("50 54 4C 00 01 72 02 52 31 01 03 00 00 00 00 00 00 01 02");
+    let message = Message::Remove {
+        name: r1(),
+        context: vec![dot(3, 258)],
+    };
+    assert_eq!(read_message(&m1), Ok(message));
+    assert_eq!(remove(&[dot(3, 258)]), m1);
+}
+
+#[test]
+fn a1_and_a2() {
+    let mut one = fresh(1);
+    assert_eq!(one.own_add(&b7(), &[]), Ok(bytes(A1)));
+    let listing = one.list().expect("is sound");
+    let expected = bytes("02 42 37 00 01 01 00 00 00 00 00 00 00 01");
+    assert_eq!((listing.bytes, listing.labels), (expected, 1));
+    one.own_add(&b7(), &[dot(1, 1)]).expect("accepted");
+    let state = one.state();
+    assert_eq!((state.used(), state.tombstone()), (38, vec![dot(1, 1)]));
+    assert_eq!(one.compact(), Ok(()));
+    let state = one.state();
+    assert_eq!((state.used(), state.tombstone()), (19, vec![]));
+    assert_eq!(listed(&one), [entry("B7", &[dot(1, 2)])]);
+    assert_eq!(one.store()[19..38], [0; 19]);
+    assert_eq!(one.store()[38..], [0xEE; 8192 - 38]);
+}
+
+#[test]
+fn r1_late_add() {
+    let mut two = fresh(2);
+    assert_eq!(two.take_in(&remove(&[dot(1, 1)])), Ok(()));
+    assert_eq!(two.take_in(&bytes(A1)), Ok(()));
+    assert_eq!((two.state().used(), listed(&two)), (0, vec![]));
+}
+
+#[test]
+fn c1() {
+    let mut one = fresh(1);
+    one.own_add(&b7(), &[]).expect("accepted");
+    assert_eq!(one.take_in(&add(b"B7", dot(2, 1), &[])), Ok(()));
+    assert_eq!(listed(&one), [entry("B7", &[dot(1, 1), dot(2, 1)])]);
+    assert_eq!(one.own_remove(&[dot(1, 1)]), Ok(remove(&[dot(1, 1)])));
+    assert_eq!(listed(&one), [entry("B7", &[dot(2, 1)])]);
+}
+
+#[test]
+fn w1_to_w3() {
+    let mut one = fresh(1);
+    assert_eq!(
+        one.take_in(&add(b"B7", dot(3, 65), &[])),
+        Err(Answer::TooFar)
+    );
+    assert_eq!(row(&one, 3), (0, 0));
+    assert_eq!(one.take_in(&add(b"B7", dot(3, 64), &[])), Ok(()));
+    assert_eq!(row(&one, 3), (0, 1 << 63));
+    let mut one = fresh(1);
+    assert_eq!(one.take_in(&add(b"B7", dot(3, 1), &[dot(3, 65)])), Ok(()));
+    assert_eq!(row(&one, 3), (1, 1 << 63));
+}
+
+#[test]
+fn w4() {
+    let mut one = fresh(1);
+    for first in [2, 18, 34, 50] {
+        let last = (first + 15).min(64);
+        assert_eq!(one.take_in(&remove(&dots(3, first..=last))), Ok(()));
+    }
+    assert_eq!(row(&one, 3), (0, !1));
+    assert_eq!(one.take_in(&add(b"B7", dot(3, 1), &[])), Ok(()));
+    assert_eq!(row(&one, 3), (64, 0));
+}
+
+#[test]
+fn n1() {
+    let mut one = fresh(1);
+    one.own_add(&b7(), &[]).expect("accepted");
+    let answer = one.take_in(&add(b"B7", dot(1, 2), &[]));
+    assert_eq!(answer, Err(Answer::OwnAhead));
+}
+
+#[test]
+fn o1() {
+    let mut one = fresh(1);
+    for label in ["B8", "B70", "B7"] {
+        one.own_add(&Label::from(label), &[]).expect("accepted");
+    }
+    let places = ["B7", "B70", "B8"].map(|label| {
+        let found = one.lookup(&Label::from(label)).expect("is sound");
+        (found.start, found.keys.len(), found.listed)
+    });
+    assert_eq!(places, [(0, 19, true), (19, 20, true), (39, 19, true)]);
+}
+
+#[test]
+fn labels_and_contexts_of_either_side() {
+    let mut one = fresh(1);
+    let label = |length| Label(vec![b'x'; length]);
+    assert!(one.own_add(&label(32), &[]).is_ok());
+    assert_eq!(one.own_add(&label(33), &[]), Err(Answer::BadName));
+    assert_eq!(one.own_add(&label(0), &[]), Err(Answer::BadName));
+    assert_eq!(one.lookup(&label(33)), Err(Answer::BadName));
+    assert_eq!(one.own_remove(&dots(2, 1..=17)), Err(Answer::BadDot));
+    let longest = one.own_add(&label(32), &dots(2, 1..=16));
+    assert_eq!(
+        longest.map(|message| message.len()),
+        Ok(6 + 3 + 33 + 9 + 145)
+    );
+}
+
+#[test]
+fn the_longest_message() {
+    let name = SetName(vec![b'n'; 16]);
+    let mut one = Controller::set_up(Actor(1), &name, vec![0; 100]).expect("keeps the rules");
+    let message = one.own_add(&Label(vec![b'x'; 32]), &dots(2, 1..=16));
+    assert_eq!(message.map(|message| message.len()), Ok(ptl::MESSAGE_MAX));
+}
+
+#[test]
+fn version_2_with_unknown_kind() {
+    let mut one = fresh(1);
+    let message = bytes("50 54 4C 00 02 FF 02 52 31 00");
+    assert_eq!(one.take_in(&message), Err(Answer::BadVersion));
+    assert_eq!(read_message(&message), Err(Answer::BadVersion));
+    let message = bytes("50 54 4C 00 01 FF 02 52 31 00");
+    assert_eq!(one.take_in(&message), Err(Answer::BadShape));
+}
+
+#[test]
+fn own_dots_in_an_own_context() {
+    let mut one = fresh(1);
+    one.own_add(&b7(), &[]).expect("accepted");
+    assert_eq!(one.own_add(&b7(), &[dot(1, 2)]), Err(Answer::BadDot));
+    assert_eq!(one.own_add(&b7(), &[dot(1, 3)]), Err(Answer::OwnAhead));
+    assert_eq!(one.own_remove(&[dot(1, 2)]), Err(Answer::OwnAhead));
+}
+
+#[test]
+fn a_store_that_is_full() {
+    for length in [0, 18] {
+        let mut one = with_store(1, length);
+        assert_eq!(one.own_add(&b7(), &[]), Err(Answer::StoreFull));
+    }
+    let mut one = with_store(1, 19);
+    assert!(one.own_add(&b7(), &[]).is_ok());
+    assert_eq!(one.own_add(&b7(), &[]), Err(Answer::StoreFull));
+    assert_eq!(listed(&one), [entry("B7", &[dot(1, 1)])]);
+    assert_eq!(with_store(1, ptl::STORE_MAX).compact(), Ok(()));
+    let mut longer = with_store(1, ptl::STORE_MAX + 1);
+    assert_eq!(longer.compact(), Err(Answer::Damaged));
+}
+
+#[test]
+fn a_tombstone_that_is_full() {
+    let mut one = fresh(1);
+    for _ in 0..129 {
+        one.own_add(&b7(), &[]).expect("accepted");
+    }
+    for first in (1..=113).step_by(16) {
+        let context = dots(1, first..=first + 15);
+        one.own_remove(&context).expect("accepted");
+    }
+    assert_eq!(one.state().count(), 128);
+    let before = one.clone();
+    assert_eq!(one.own_remove(&[dot(1, 129)]), Err(Answer::TombstoneFull));
+    assert_eq!(one, before);
+    assert_eq!(one.own_remove(&[dot(1, 7)]), Ok(remove(&[dot(1, 7)])));
+    assert_eq!(one, before);
+    assert_eq!(one.compact(), Ok(()));
+    assert_eq!((one.state().count(), one.state().used()), (0, 19));
+}
+
+#[test]
+fn other_sets_and_other_marks() {
+    let mut one = fresh(1);
+    let other = bytes("50 54 4C 00 01 72 02 52 32 00");
+    assert_eq!(one.take_in(&other), Err(Answer::OtherSet));
+    assert_eq!(one.take_in(&other[..4]), Err(Answer::NoMark));
+    assert_eq!(one.take_in(b"PTM\0\x01"), Err(Answer::NoMark));
+    assert_eq!(one.take_in(&[]), Err(Answer::NoMark));
+}
+
+#[test]
+fn the_largest_counter() {
+    let (mut state, store) = fresh(1).into_parts();
+    assert!(state.set_base(Actor(1), u64::MAX));
+    let mut one = Controller::of_parts(state, store);
+    assert_eq!(one.own_add(&b7(), &[]), Err(Answer::CounterEnd));
+    assert!(one.own_remove(&[dot(1, u64::MAX)]).is_ok());
+}
+
+#[test]
+fn set_up_refused() {
+    for (actor, name) in [
+        (0, "R1"),
+        (17, "R1"),
+        (1, ""),
+        (1, "R\0"),
+        (1, "12345678901234567"),
+    ] {
+        let refused = Controller::set_up(Actor(actor), &SetName::from(name), vec![]);
+        assert_eq!(refused, Err(Answer::BadName), "{actor} {name}");
+    }
+}
+
+/// Slip 1: compaction has dropped the key, the clock remembers it.
+#[test]
+fn a_repeated_add_is_not_stored_again() {
+    let mut two = fresh(2);
+    assert_eq!(two.take_in(&bytes(A1)), Ok(()));
+    two.own_remove(&[dot(1, 1)]).expect("accepted");
+    assert_eq!(two.compact(), Ok(()));
+    assert_eq!(two.take_in(&bytes(A1)), Ok(()));
+    assert_eq!((two.state().used(), listed(&two)), (0, vec![]));
+}
+
+/// Slip 2: a context is just its dots.
+#[test]
+fn a_context_removes_no_lower_counters() {
+    let mut one = fresh(1);
+    one.own_add(&Label::from("A"), &[]).expect("accepted");
+    one.own_add(&b7(), &[]).expect("accepted");
+    one.own_remove(&[dot(1, 2)]).expect("accepted");
+    assert_eq!(listed(&one), [entry("A", &[dot(1, 1)])]);
+}
+
+/// Slip 3: an unseen dot joins the clock, not the tombstone.
+#[test]
+fn an_unseen_dot_joins_the_clock() {
+    let mut two = fresh(2);
+    two.own_remove(&[dot(1, 1)]).expect("accepted");
+    assert_eq!((row(&two, 1), two.state().count()), ((1, 0), 0));
+}
+
+#[test]
+fn any_state_is_answered() {
+    for fill in [0x00, 0x01, 0x7F, 0xFF] {
+        let mut any = Controller::of_parts(State::of_block([fill; 1449]), vec![fill; 300]);
+        let before = any.clone();
+        assert_eq!(any.own_add(&b7(), &[dot(0, 0)]), Err(Answer::Damaged));
+        assert_eq!(any.own_remove(&[]), Err(Answer::Damaged));
+        assert_eq!(any.take_in(&[fill; 300]), Err(Answer::Damaged));
+        assert_eq!(any.list(), Err(Answer::Damaged));
+        assert_eq!(any.lookup(&b7()), Err(Answer::Damaged));
+        assert_eq!(any.compact(), Err(Answer::Damaged));
+        assert_eq!(any, before);
+    }
+}
