@@ -2,6 +2,7 @@
 
 use std::io::{BufRead, BufReader, Write};
 use std::process::{Command, Output, Stdio};
+use std::time::{Duration, Instant};
 
 fn ptl(arguments: &[&str]) -> Command {
     let mut command = Command::new(env!("CARGO_BIN_EXE_ptl"));
@@ -24,7 +25,7 @@ fn help_prints_usage() {
 
 #[test]
 fn unknown_arguments_print_usage_and_fail() {
-    let unknown: [&[&str]; 14] = [
+    let unknown: [&[&str]; 19] = [
         &[],
         &[""],
         &["help"],
@@ -39,6 +40,11 @@ fn unknown_arguments_print_usage_and_fail() {
         &["compare", "--calls", "1", "--calls", "1"],
         &["compare", "--calls", "1", "--seed"],
         &["compare", "--seed", "18446744073709551616"],
+        &["compare", "--against", "product"],
+        &["compare", "--against"],
+        &["bench", "x"],
+        &["bench", "--quick", "--quick"],
+        &["bench", "--help"],
     ];
     for arguments in unknown {
         let refused = output(arguments);
@@ -83,9 +89,10 @@ fn counts(table: &str, call: &str) -> Vec<i64> {
     cells.map(|cell| cell.parse().unwrap_or(-1)).collect()
 }
 
-#[test]
-fn product_and_reference_agree_in_200000_calls() {
-    let run = output(&["compare", "--calls", "200000", "--seed", "1"]);
+/// Runs the comparison with these arguments too; it passes, and meets every answer.
+fn agree_in_200000_calls(more: &[&str]) {
+    let arguments = [&["compare", "--calls", "200000", "--seed", "1"], more].concat();
+    let run = output(&arguments);
     let table = String::from_utf8(run.stdout).expect("ASCII");
     assert_eq!(run.status.code(), Some(0), "{table}");
     let calls = [
@@ -111,4 +118,27 @@ fn product_and_reference_agree_in_200000_calls() {
     assert_eq!(counts(&table, "compact")[2..], [-1; 12]);
     let progress = String::from_utf8(run.stderr).expect("ASCII");
     assert!(progress.contains(" of 200000 calls, "), "{progress}");
+}
+
+#[test]
+fn product_and_reference_agree_in_200000_calls() {
+    agree_in_200000_calls(&[]);
+    let named = output(&["compare", "--against", "reference", "--calls", "100"]);
+    assert_eq!(named.status.code(), Some(0));
+}
+
+#[test]
+fn product_and_baseline_agree_in_200000_calls() {
+    agree_in_200000_calls(&["--against", "baseline"]);
+}
+
+#[test]
+fn a_quick_bench_passes_in_time() {
+    let start = Instant::now();
+    let run = output(&["bench", "--quick"]);
+    let tables = String::from_utf8(run.stdout).expect("ASCII");
+    assert_eq!(run.status.code(), Some(0), "{tables}");
+    assert!(tables.contains("\nTaking in 2000 messages"), "{tables}");
+    assert!(tables.ends_with("Answers and bytes were equal in every run.\n"));
+    assert!(start.elapsed() < Duration::from_secs(20), "{tables}");
 }

@@ -10,7 +10,6 @@ mod messages;
 mod moves;
 mod network;
 mod pools;
-mod random;
 mod report;
 mod shrink;
 mod starts;
@@ -20,8 +19,8 @@ mod tests;
 mod trial;
 
 use crate::engine::Engine;
+use crate::random::{self, Random};
 use episode::Episode;
-use random::Random;
 use report::Progress;
 use std::io::{self, Write};
 use tally::Tally;

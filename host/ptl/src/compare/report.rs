@@ -146,16 +146,18 @@ fn said(engines: Engines, script: &[Step], report: &mut dyn Write) -> io::Result
     };
     let racks = [0, 1].map(|side| trial.side(last.rack, side).clone());
     let sides = [0, 1].map(|side| Said::of(engines[side], racks[side].clone(), command));
-    let [product, reference] = &sides;
-    writeln!(report, "product:   {}", product.line)?;
-    writeln!(report, "reference: {}", reference.line)?;
-    if product.rack.state != reference.rack.state {
-        writeln!(report, "product:   {}", product.state_line())?;
-        writeln!(report, "reference: {}", reference.state_line())?;
+    let [product, other] = &sides;
+    let name = format!("{}:", engines[1].name());
+    writeln!(report, "{:<10} {}", "product:", product.line)?;
+    writeln!(report, "{name:<10} {}", other.line)?;
+    if product.rack.state != other.rack.state {
+        writeln!(report, "{:<10} {}", "product:", product.state_line())?;
+        writeln!(report, "{name:<10} {}", other.state_line())?;
     }
-    differing_byte("state", product.block(), reference.block(), report)?;
-    differing_byte("store", &product.rack.store, &reference.rack.store, report)?;
-    differing_byte("output", &product.out, &reference.out, report)
+    let of = |what| (what, engines[1].name());
+    differing_byte(of("state"), product.block(), other.block(), report)?;
+    differing_byte(of("store"), &product.rack.store, &other.rack.store, report)?;
+    differing_byte(of("output"), &product.out, &other.out, report)
 }
 
 /// What one side says, and what it leaves.
@@ -184,18 +186,19 @@ impl Said {
     }
 }
 
-/// The first byte in which two sides differ.
+/// The first byte in which two sides differ, with the words for what it is of and for the other
+/// side.
 fn differing_byte(
-    of: &str,
+    (of, name): (&str, &str),
     product: &[u8],
-    reference: &[u8],
+    other: &[u8],
     report: &mut dyn Write,
 ) -> io::Result<()> {
-    let mut bytes = product.iter().zip(reference).enumerate();
+    let mut bytes = product.iter().zip(other).enumerate();
     match bytes.find(|(_, (one, other))| one != other) {
         Some((at, (one, other))) => writeln!(
             report,
-            "{of} byte {at}: {one:02x} of the product, {other:02x} of the reference"
+            "{of} byte {at}: {one:02x} of the product, {other:02x} of the {name}"
         ),
         None => Ok(()),
     }

@@ -1,8 +1,15 @@
-//! The ten calls as something that can be run: by the product or by the reference.
+//! The ten calls as something that can be run: by the product, by the reference or by the
+//! baseline.
 
+mod baseline;
+#[cfg(test)]
+mod faulty;
 mod product;
 mod second;
 
+pub use self::baseline::Baseline;
+#[cfg(test)]
+pub use faulty::{Fault, Faulty};
 pub use product::Product;
 pub use second::Second;
 
@@ -11,6 +18,9 @@ use ptl::State;
 
 /// An implementation of the calls on blocks of state, lent stores and lent outputs.
 pub trait Engine {
+    /// What reports call it.
+    fn name(&self) -> &'static str;
+
     fn set_up(&self, actor: u8, name: &[u8], state: &mut State) -> u8;
 
     fn own_add(

@@ -7,6 +7,10 @@ use ptl::State;
 pub struct Product;
 
 impl Engine for Product {
+    fn name(&self) -> &'static str {
+        "product"
+    }
+
     fn set_up(&self, actor: u8, name: &[u8], state: &mut State) -> u8 {
         calls::set_up(actor, name, state)
     }

@@ -16,6 +16,10 @@ const MESSAGE_FRONT: usize = 7;
 const DOT: usize = 9;
 
 impl Engine for Second {
+    fn name(&self) -> &'static str {
+        "reference"
+    }
+
     fn set_up(&self, actor: u8, name: &[u8], state: &mut State) -> u8 {
         let (answer, made) = reference::set_up(actor, name);
         *state = to_block(&made);

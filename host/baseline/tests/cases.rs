@@ -1,0 +1,448 @@
+//! The cases of the rules ("Both sides of the line") and the slips, on the baseline.
+
+use baseline::*;
+
+/// What lent bytes hold that no call has written.
+const FILL: u8 = 0xA5;
+const B7: &[u8] = b"B7";
+
+/// A controller of set "R1" and its lent store.
+#[derive(Clone, PartialEq, Eq, Debug)]
+struct Rack {
+    block: Block,
+    store: Vec<u8>,
+}
+
+impl Rack {
+    fn with_store(actor: u8, length: usize) -> Rack {
+        let mut block = [FILL; STATE_SIZE];
+        assert_eq!(set_up(actor, b"R1", &mut block), 0);
+        let store = vec![FILL; length];
+        Rack { block, store }
+    }
+
+    fn new(actor: u8) -> Rack {
+        Rack::with_store(actor, 8192)
+    }
+
+    /// Own add; its answer and message.
+    fn add(&mut self, label: &[u8], context: &[(u8, u64)]) -> (u8, Vec<u8>) {
+        let (before, mut out) = (self.clone(), vec![FILL; 250]);
+        let wrote = own_add(
+            &mut self.block,
+            &mut self.store,
+            label,
+            &dots(context),
+            &mut out,
+        );
+        self.written(&before, wrote, out)
+    }
+
+    /// Own remove; its answer and message.
+    fn remove(&mut self, context: &[(u8, u64)]) -> (u8, Vec<u8>) {
+        let (before, mut out) = (self.clone(), vec![FILL; 250]);
+        let wrote = own_remove(&mut self.block, &self.store, &dots(context), &mut out);
+        self.written(&before, wrote, out)
+    }
+
+    /// What was written; a refusal has changed nothing.
+    fn written(&self, before: &Rack, wrote: Wrote, mut out: Vec<u8>) -> (u8, Vec<u8>) {
+        assert!(out[wrote.written..].iter().all(|byte| *byte == FILL));
+        if wrote.answer != 0 {
+            assert_eq!((self, wrote.written), (before, 0));
+        }
+        out.truncate(wrote.written);
+        (wrote.answer, out)
+    }
+
+    fn take(&mut self, message: &[u8]) -> u8 {
+        let before = self.clone();
+        let answer = take_in(&mut self.block, &mut self.store, message);
+        assert!(answer == 0 || *self == before);
+        answer
+    }
+
+    fn compact(&mut self) -> u8 {
+        compact(&mut self.block, &mut self.store)
+    }
+
+    /// The listing's bytes and its number of labels.
+    fn list(&self) -> (Vec<u8>, usize) {
+        let mut out = vec![FILL; self.store.len()];
+        let listed = list(&self.block, &self.store, &mut out);
+        assert_eq!(listed.answer, 0);
+        out.truncate(listed.written);
+        (out, listed.labels)
+    }
+
+    fn lookup(&self, label: &[u8]) -> Looked {
+        lookup(&self.block, &self.store, label)
+    }
+
+    fn number(&self, at: usize) -> u64 {
+        let bytes = self.block[at..at + 8].try_into().expect("eight bytes");
+        u64::from_be_bytes(bytes)
+    }
+
+    fn set_number(&mut self, at: usize, number: u64) {
+        self.block[at..at + 8].copy_from_slice(&number.to_be_bytes());
+    }
+
+    fn row(&self, actor: usize) -> (u64, u64) {
+        let at = 25 + 16 * (actor - 1);
+        (self.number(at), self.number(at + 8))
+    }
+
+    /// Dots in the tombstone, and used bytes.
+    fn sizes(&self) -> (u64, u64) {
+        (self.number(1433), self.number(1441))
+    }
+
+    fn tombstone(&self) -> &[u8] {
+        &self.block[281..281 + 9 * self.number(1433) as usize]
+    }
+}
+
+/// Nine bytes a dot.
+fn dots(list: &[(u8, u64)]) -> Vec<u8> {
+    let bytes = |(actor, counter): &(u8, u64)| {
+        let mut nine = vec![*actor];
+        nine.extend(counter.to_be_bytes());
+        nine
+    };
+    list.iter().flat_map(bytes).collect()
+}
+
+/// Dots of one actor.
+fn dots_of(actor: u8, counters: std::ops::RangeInclusive<u64>) -> Vec<(u8, u64)> {
+    counters.map(|counter| (actor, counter)).collect()
+}
+
+/// The bytes of an add of set R1; nothing is checked.
+fn add_bytes(label: &[u8], dot: (u8, u64), context: &[(u8, u64)]) -> Vec<u8> {
+    let mut message = b"PTL\x00\x01a\x02R1".to_vec();
+    message.push(label.len() as u8);
+    message.extend(label);
+    message.extend(dots(&[dot]));
+    message.push(context.len() as u8);
+    message.extend(dots(context));
+    message
+}
+
+/// The bytes of a remove of set R1; nothing is checked.
+fn remove_bytes(context: &[(u8, u64)]) -> Vec<u8> {
+    let mut message = b"PTL\x00\x01r\x02R1".to_vec();
+    message.push(context.len() as u8);
+    message.extend(dots(context));
+    message
+}
+
+/// Bytes as the rules write them.
+fn bytes(hex: &str) -> Vec<u8> {
+    let pairs = hex.split_whitespace();
+    pairs
+        .map(|pair| u8::from_str_radix(pair, 16).expect("a pair of digits"))
+        .collect()
+}
+
+/// The entry of a listing.
+fn entry(label: &[u8], of: &[(u8, u64)]) -> Vec<u8> {
+    let front = [&[label.len() as u8], label, &[0, of.len() as u8]].concat();
+    [front, dots(of)].concat()
+}
+
+const K1: &str = "02 01 52 31 00 65 42 37 00 03 00 00 00 00 00 00 00 01 02";
+const M1: &str = "50 54 4C 00 01 72 02 52 31 01 03 00 00 00 00 00 00 01 02";
+const A1: &str = "50 54 4C 00 01 61 02 52 31 02 42 37 01 00 00 00 00 00 00 00 01 00";
+
+#[test]
+fn k1() {
+    let mut out = [FILL; 20];
+    let wrote = write_key(b'e', b"R1", B7, 3, 258, &mut out);
+    assert_eq!((wrote.answer, wrote.written), (0, 19));
+    assert_eq!((&out[..19], out[19]), (bytes(K1).as_slice(), FILL));
+    let read = read_key(&bytes(K1));
+    assert_eq!((read.answer, read.kind), (0, b'e'));
+    assert_eq!((read.name_at, read.name_len), (2, 2));
+    assert_eq!((read.label_at, read.label_len), (6, 2));
+    assert_eq!((read.actor, read.counter), (3, 258));
+    assert_eq!(read_key(&bytes(K1)[..18]).answer, 4);
+    assert_eq!(
+        write_key(b'e', b"R1", B7, 3, 258, &mut out[..18]).answer,
+        13
+    );
+}
+
+#[test]
+fn keys_of_the_other_types() {
+    let keys = [
+        (b'c', 16, "02 01 52 31 00 63 00 10 00"),
+        (b'd', 1, "02 01 52 31 00 64 00 01 00"),
+        (b'z', 0, "02 01 52 31 00 7A 00 00"),
+    ];
+    for (kind, actor, hex) in keys {
+        let mut out = [FILL; 20];
+        let wrote = write_key(kind, b"R1", &[], actor, 0, &mut out);
+        assert_eq!(wrote.answer, 0);
+        assert_eq!(out[..wrote.written], bytes(hex));
+        let read = read_key(&bytes(hex));
+        assert_eq!((read.answer, read.kind, read.actor), (0, kind, actor));
+        assert_eq!((read.label_at, read.label_len, read.counter), (0, 0, 0));
+    }
+    let answer = |kind, name, actor, counter| {
+        let mut out = [FILL; 63];
+        write_key(kind, name, B7, actor, counter, &mut out).answer
+    };
+    assert_eq!(answer(b'x', b"", 0, 0), 4);
+    assert_eq!(answer(b'e', b"", 3, 1), 5);
+    assert_eq!(answer(b'e', b"R1", 0, 0), 5);
+    assert_eq!(answer(b'e', b"R1", 3, 0), 6);
+    assert_eq!(answer(b'z', b"R1", 99, 0), 0);
+}
+
+#[test]
+fn m1() {
+    assert_eq!(remove_bytes(&[(3, 258)]), bytes(M1));
+    let read = read_message(&bytes(M1));
+    assert_eq!((read.answer, read.kind), (0, b'r'));
+    assert_eq!((read.name_at, read.name_len), (7, 2));
+    assert_eq!((read.context_at, read.context_len), (10, 9));
+}
+
+#[test]
+fn a1_and_a2() {
+    let mut one = Rack::new(1);
+    assert_eq!(one.add(B7, &[]), (0, bytes(A1)));
+    let listing = bytes("02 42 37 00 01 01 00 00 00 00 00 00 00 01");
+    assert_eq!(one.list(), (listing, 1));
+    assert_eq!(
+        one.add(B7, &[(1, 1)]),
+        (0, add_bytes(B7, (1, 2), &[(1, 1)]))
+    );
+    assert_eq!(one.sizes(), (1, 38));
+    assert_eq!(one.tombstone(), dots(&[(1, 1)]));
+    assert_eq!((one.compact(), one.sizes()), (0, (0, 19)));
+    assert_eq!(one.list(), (entry(B7, &[(1, 2)]), 1));
+    assert!(one.store[19..38].iter().all(|byte| *byte == 0));
+    assert!(one.store[38..].iter().all(|byte| *byte == FILL));
+}
+
+#[test]
+fn r1_late_add() {
+    let mut two = Rack::new(2);
+    assert_eq!(two.take(&remove_bytes(&[(1, 1)])), 0);
+    assert_eq!((two.row(1), two.sizes()), ((1, 0), (0, 0)));
+    assert_eq!(two.take(&bytes(A1)), 0);
+    assert_eq!((two.sizes(), two.list()), ((0, 0), (vec![], 0)));
+}
+
+#[test]
+fn c1() {
+    let mut one = Rack::new(1);
+    one.add(B7, &[]);
+    assert_eq!(one.take(&add_bytes(B7, (2, 1), &[])), 0);
+    assert_eq!(one.remove(&[(1, 1)]), (0, remove_bytes(&[(1, 1)])));
+    assert_eq!(one.list(), (entry(B7, &[(2, 1)]), 1));
+    let found = one.lookup(B7);
+    assert_eq!((found.at, found.len, found.listed), (0, 38, true));
+}
+
+#[test]
+fn w1_to_w3() {
+    let mut one = Rack::new(1);
+    assert_eq!(one.take(&add_bytes(B7, (3, 65), &[])), 10);
+    assert_eq!(one.take(&add_bytes(B7, (3, 64), &[])), 0);
+    assert_eq!(one.row(3), (0, 1 << 63));
+    let mut one = Rack::new(1);
+    assert_eq!(one.take(&add_bytes(B7, (3, 1), &[(3, 65)])), 0);
+    assert_eq!(one.row(3), (1, 1 << 63));
+}
+
+#[test]
+fn w4() {
+    let mut one = Rack::new(1);
+    for event in 2..=64 {
+        assert_eq!(one.take(&add_bytes(B7, (3, event), &[])), 0);
+    }
+    assert_eq!(one.row(3), (0, !1));
+    assert_eq!(one.take(&add_bytes(B7, (3, 1), &[])), 0);
+    assert_eq!(one.row(3), (64, 0));
+}
+
+#[test]
+fn n1() {
+    let mut one = Rack::new(1);
+    one.add(B7, &[]);
+    assert_eq!(one.take(&add_bytes(B7, (1, 2), &[])), 8);
+    assert_eq!(one.take(&add_bytes(B7, (1, 1), &[])), 0);
+}
+
+#[test]
+fn o1() {
+    let mut one = Rack::new(1);
+    for label in [b"B8".as_slice(), b"B70", b"B7"] {
+        assert_eq!(one.add(label, &[]).0, 0);
+    }
+    let places = [b"B7".as_slice(), b"B70", b"B8"].map(|label| {
+        let found = one.lookup(label);
+        (found.at, found.len)
+    });
+    assert_eq!(places, [(0, 19), (19, 20), (39, 19)]);
+    let none = one.lookup(b"B71");
+    assert_eq!(
+        (none.answer, none.at, none.len, none.listed),
+        (0, 39, 0, false)
+    );
+}
+
+#[test]
+fn labels_and_contexts_of_either_side() {
+    let mut one = Rack::new(1);
+    assert_eq!(one.add(&[b'x'; 32], &[]).0, 0);
+    assert_eq!(one.add(&[b'x'; 33], &[]).0, 5);
+    assert_eq!(one.lookup(&[b'x'; 33]).answer, 5);
+    assert_eq!(one.take(&add_bytes(&[b'x'; 33], (2, 1), &[])), 5);
+    assert_eq!(one.remove(&dots_of(2, 1..=17)).0, 6);
+    assert_eq!(one.add(B7, &dots_of(2, 1..=16)).0, 0);
+    assert_eq!(one.row(2), (16, 0));
+}
+
+#[test]
+fn messages_that_are_none() {
+    let mut one = Rack::new(1);
+    assert_eq!(one.take(b"PTL\x00\x02q"), 3);
+    assert_eq!(one.take(b"PTL\x00\x01q"), 4);
+    assert_eq!(one.take(b"PTL\x00\x01"), 4);
+    assert_eq!(one.take(b"PTL\x00"), 2);
+    assert_eq!(one.take(b"PTM\x00\x01"), 2);
+    assert_eq!(one.take(b"PTL\x00\x01r\x02R2\x00"), 7);
+    assert_eq!(one.take(b"PTL\x00\x01r\x02R1\x00"), 0);
+    assert_eq!(one, Rack::new(1));
+}
+
+#[test]
+fn own_dots_to_come() {
+    let mut one = Rack::new(1);
+    one.add(B7, &[]);
+    assert_eq!(one.add(B7, &[(1, 2)]).0, 6);
+    assert_eq!(one.add(B7, &[(1, 3)]).0, 8);
+    assert_eq!(one.remove(&[(1, 2)]).0, 8);
+    one.set_number(25, u64::MAX);
+    assert_eq!(one.add(B7, &[]).0, 9);
+    assert_eq!(one.remove(&[(1, u64::MAX)]).0, 0);
+}
+
+#[test]
+fn a_store_that_is_full() {
+    assert_eq!(Rack::with_store(1, 0).add(B7, &[]).0, 12);
+    assert_eq!(Rack::with_store(1, 18).add(B7, &[]).0, 12);
+    let mut one = Rack::with_store(1, 19);
+    assert_eq!(one.add(B7, &[]).0, 0);
+    assert_eq!(one.add(B7, &[]).0, 12);
+    assert_eq!(Rack::with_store(1, 65_536).compact(), 0);
+    assert_eq!(Rack::with_store(1, 65_537).compact(), 1);
+}
+
+#[test]
+fn an_output_that_is_short() {
+    let mut one = Rack::new(1);
+    let before = one.clone();
+    let mut out = [FILL; 21];
+    let wrote = own_add(&mut one.block, &mut one.store, B7, &[], &mut out);
+    assert_eq!((wrote.answer, wrote.written), (13, 0));
+    assert_eq!((&one, out), (&before, [FILL; 21]));
+    one.add(B7, &[]);
+    for room in [13, 14] {
+        let mut out = [FILL; 14];
+        let listed = list(&one.block, &one.store, &mut out[..room]);
+        assert_eq!(listed.answer, if room < 14 { 13 } else { 0 });
+        assert_eq!(out == [FILL; 14], room < 14);
+    }
+}
+
+#[test]
+fn a_tombstone_that_is_full() {
+    let mut one = Rack::new(1);
+    for _ in 0..129 {
+        assert_eq!(one.add(B7, &[]).0, 0);
+    }
+    for first in (1..=113).step_by(16) {
+        assert_eq!(one.remove(&dots_of(1, first..=first + 15)).0, 0);
+    }
+    let full = one.clone();
+    assert_eq!(one.remove(&[(1, 129)]).0, 11);
+    assert_eq!(one.remove(&[(1, 7)]).0, 0);
+    assert_eq!(one, full);
+    assert_eq!((one.compact(), one.sizes()), (0, (0, 19)));
+}
+
+#[test]
+fn set_up_refused() {
+    for (actor, name) in [
+        (0, b"R1".as_slice()),
+        (17, b"R1"),
+        (1, b""),
+        (1, b"R\0"),
+        (1, &[b'n'; 17]),
+    ] {
+        let mut block = [FILL; STATE_SIZE];
+        assert_eq!(set_up(actor, name, &mut block), 5);
+        assert_eq!(block, [0; STATE_SIZE]);
+    }
+}
+
+/// Slips 1 to 3; 4 is W4 and 5 is C1.
+#[test]
+fn slips() {
+    let mut two = Rack::new(2);
+    assert_eq!(two.take(&bytes(A1)), 0);
+    assert_eq!(two.remove(&[(1, 1)]).0, 0);
+    assert_eq!((two.compact(), two.take(&bytes(A1))), (0, 0));
+    assert_eq!((two.sizes(), two.list().1), ((0, 0), 0));
+    let mut one = Rack::new(1);
+    one.add(b"A", &[]);
+    one.add(B7, &[]);
+    one.remove(&[(1, 2)]);
+    assert_eq!(one.list(), (entry(b"A", &[(1, 1)]), 1));
+    assert_eq!(one.remove(&[(3, 1)]).0, 0);
+    assert_eq!((one.row(3), one.sizes().0), ((1, 0), 1));
+}
+
+/// Each byte of block and used store matters: another value is damage or another state.
+#[test]
+fn damage_is_answered_1_by_every_call() {
+    let mut one = Rack::new(1);
+    one.add(B7, &[]);
+    one.add(b"B8", &[]);
+    one.remove(&[(1, 1)]);
+    let harms: [(usize, u8); 7] = [
+        (0, 17),
+        (1, 0),
+        (4, 1),
+        (40, 1),
+        (290, 1),
+        (281, 2),
+        (1448, 37),
+    ];
+    for (at, value) in harms {
+        let mut harmed = one.clone();
+        harmed.block[at] = value;
+        answers_1(harmed);
+    }
+    for at in 0..38 {
+        let mut harmed = one.clone();
+        harmed.store[at] = 0xFF * u8::from(harmed.store[at] == 0);
+        answers_1(harmed);
+    }
+}
+
+fn answers_1(mut harmed: Rack) {
+    assert_eq!(harmed.add(B7, &[]).0, 1);
+    assert_eq!(harmed.remove(&[]).0, 1);
+    assert_eq!(harmed.take(&bytes(A1)), 1);
+    assert_eq!(harmed.compact(), 1);
+    let looked = harmed.lookup(B7);
+    assert_eq!((looked.answer, looked.len, looked.listed), (1, 0, false));
+    let listed = list(&harmed.block, &harmed.store, &mut [FILL; 99]);
+    assert_eq!((listed.answer, listed.written, listed.labels), (1, 0, 0));
+}

@@ -1,0 +1,132 @@
+//! The bench's arithmetic and data, and that it finds a difference.
+
+use super::data::{Labels, NAMES, SETS};
+use super::messages::messages;
+use super::stats::{quantile, Quartiles, Summary};
+use super::table::{per_byte, Row};
+use super::{bench, Plan};
+use crate::compare::Engines;
+use crate::engine::{Baseline, Fault, Faulty, Product};
+use crate::random::Random;
+use std::collections::BTreeSet;
+
+/// As little as there can be.
+const LEAST: Plan = Plan {
+    messages: 150,
+    intake_pairs: 1,
+    single_pairs: 1,
+};
+
+fn quartiles(numbers: &[f64]) -> (f64, f64, f64) {
+    let Quartiles { low, median, high } = Quartiles::of(numbers.iter().copied());
+    (low, median, high)
+}
+
+#[test]
+fn quartiles_of_few_numbers() {
+    assert_eq!(quartiles(&[7.0]), (7.0, 7.0, 7.0));
+    assert_eq!(quartiles(&[3.0, 1.0]), (1.5, 2.0, 2.5));
+    assert_eq!(quartiles(&[3.0, 1.0, 2.0]), (1.5, 2.0, 2.5));
+    assert_eq!(quartiles(&[4.0, 1.0, 3.0, 2.0]), (1.75, 2.5, 3.25));
+    assert_eq!(quartiles(&[5.0, 4.0, 3.0, 2.0, 1.0]), (2.0, 3.0, 4.0));
+}
+
+#[test]
+fn quartiles_of_many_numbers() {
+    let numbers: Vec<f64> = (0..=100).rev().map(f64::from).collect();
+    assert_eq!(quartiles(&numbers), (25.0, 50.0, 75.0));
+    let one_far_off: Vec<f64> = [1.0; 20].into_iter().chain([1000.0]).collect();
+    assert_eq!(quartiles(&one_far_off), (1.0, 1.0, 1.0));
+}
+
+#[test]
+fn the_ends_of_a_quantile() {
+    assert_eq!(quantile(&[], 0.5), 0.0);
+    assert_eq!(quantile(&[1.0, 9.0], 0.0), 1.0);
+    assert_eq!(quantile(&[1.0, 9.0], 1.0), 9.0);
+}
+
+#[test]
+fn ratios_are_taken_pair_by_pair() {
+    // The second pair was disturbed: both of its times are long, its ratio is as the others.
+    let summary = Summary::of(&[[2.0, 4.0], [30.0, 60.0], [3.0, 6.0]]);
+    assert_eq!(summary.ratios.median, 0.5);
+    assert_eq!((summary.ratios.low, summary.ratios.high), (0.5, 0.5));
+    assert_eq!(summary.minima, [2.0, 4.0]);
+    assert_eq!(summary.share(2).minima, [1.0, 2.0]);
+    let crossed = Summary::of(&[[1.0, 2.0], [4.0, 1.0], [3.0, 3.0]]);
+    assert_eq!(crossed.ratios.median, 1.0);
+    assert_eq!(crossed.ratio_of_minima(), 1.0);
+}
+
+#[test]
+fn growth_is_above_the_empty_store() {
+    let row = |used, seconds: f64| Row {
+        what: "listing",
+        bytes: 2,
+        used,
+        summary: Summary::of(&[[seconds, 2.0 * seconds]]),
+        floor: 0.0,
+    };
+    let (empty, full) = (row(0, 1e-6), row(1000, 3e-6));
+    assert!((per_byte(&empty, &full, 0) - 2.0).abs() < 1e-9);
+    assert!((per_byte(&empty, &full, 1) - 4.0).abs() < 1e-9);
+}
+
+#[test]
+fn labels_and_names_keep_their_rules() {
+    let mut random = Random::new(1);
+    for set in SETS {
+        let labels: BTreeSet<Vec<u8>> = (0..500).map(|_| set.label(&mut random)).collect();
+        assert!(labels.len() > 300, "{set:?}");
+        let keeps = |label: &Vec<u8>| (1..=32).contains(&label.len()) && !label.contains(&0);
+        assert!(labels.iter().all(keeps), "{set:?}");
+    }
+    assert_eq!(NAMES.map(<[u8]>::len), [2, 16]);
+}
+
+#[test]
+fn messages_are_the_same_every_time() {
+    let made = |seed| messages(&mut Random::new(seed), Labels::Bins, b"R1", 400);
+    assert_eq!(made(2).len(), 400);
+    assert_eq!(made(2), made(2));
+    assert_ne!(made(2), made(3));
+}
+
+/// What a bench says, and whether it passed.
+fn said(engines: Engines) -> (bool, String) {
+    let mut report = Vec::new();
+    let passed = bench(engines, LEAST, &mut report).expect("writes memory");
+    (passed, String::from_utf8(report).expect("ASCII"))
+}
+
+#[test]
+fn equal_engines_pass() {
+    let (passed, report) = said([&Product, &Baseline]);
+    assert!(passed, "{report}");
+    assert!(report.ends_with("Answers and bytes were equal in every run.\n"));
+    // Two tables of 8 and of 50 lines, and two lines for each call and label length.
+    let starting = |words: &str| report.lines().filter(|l| l.starts_with(words)).count();
+    assert_eq!(["short ", "mixed ", "bins ", "deep "].map(starting), [2; 4]);
+    let calls = [
+        "own add ",
+        "own remove ",
+        "listing ",
+        "lookup ",
+        "compaction ",
+    ];
+    assert_eq!(calls.map(starting), [14; 5]);
+}
+
+#[test]
+fn a_difference_is_found() {
+    let faults = [
+        (Fault::FreedByteKept, "difference: compact: store byte "),
+        (Fault::ListingRunsOn, "difference: list: output byte "),
+    ];
+    for (fault, what) in faults {
+        let (passed, report) = said([&Faulty(fault), &Baseline]);
+        assert!(!passed && report.contains(what), "{report}");
+        assert!(!report.contains("were equal"), "{report}");
+    }
+}

@@ -1,0 +1,133 @@
+//! `ptl simulate`: a day of sixteen boxes and a bad radio, told in phases. Every box is held to the
+//! rule of demand 3 over what it accepted, and in the end to one rule over all messages.
+
+mod agreement;
+mod calls;
+mod day;
+mod evening;
+mod floor;
+mod goods;
+mod hold;
+mod lamps;
+mod mail;
+mod picture;
+mod radio;
+mod station;
+mod tally;
+#[cfg(test)]
+mod tests;
+mod weather;
+mod work;
+
+use crate::engine::Engine;
+use day::PHASES;
+use floor::Floor;
+use picture::Picture;
+use std::fs::File;
+use std::io::{self, Write};
+use tally::Tally;
+
+/// What a run is asked for.
+#[derive(Clone, PartialEq, Eq, Debug)]
+pub struct Options {
+    pub seed: u64,
+    /// The file that the picture goes to.
+    pub svg: Option<String>,
+    /// Whether disagreements and the last line alone are printed.
+    pub quiet: bool,
+}
+
+/// Runs a day. False if a box disagreed with a rule.
+pub fn simulate(
+    engine: &dyn Engine,
+    options: &Options,
+    report: &mut dyn Write,
+) -> io::Result<bool> {
+    let file = options.svg.as_deref().map(create).transpose()?;
+    let mut floor = Floor::new(engine, options.seed);
+    let mut picture = Picture::new(options.seed);
+    let loud = !options.quiet;
+    if loud {
+        head(options.seed, report)?;
+    }
+    for phase in &PHASES {
+        floor.play(phase);
+        picture.phase(phase.name, floor.calls);
+        if loud {
+            writeln!(report, "{}", floor.tally.line(phase.name, floor.agree()))?;
+        }
+        faults(&mut floor, report)?;
+    }
+    floor.end();
+    if loud {
+        foot(&floor, report)?;
+    }
+    faults(&mut floor, report)?;
+    writeln!(report, "{}", floor.last_line())?;
+    if let Some(mut file) = file {
+        file.write_all(picture.svg(&floor.samples).as_bytes())?;
+    }
+    Ok(floor.disagreements() == 0)
+}
+
+/// Makes the file before the day begins, so that a wrong name is told at once.
+fn create(path: &str) -> io::Result<File> {
+    let named = |error: io::Error| io::Error::new(error.kind(), format!("{path}: {error}"));
+    File::create(path).map_err(named)
+}
+
+/// What the lines will mean.
+fn head(seed: u64, report: &mut dyn Write) -> io::Result<()> {
+    writeln!(
+        report,
+        "A day of sixteen boxes and a bad radio, seed {seed}."
+    )?;
+    for phase in &PHASES {
+        writeln!(report, "  {:<10} {}", phase.name, phase.story)?;
+    }
+    writeln!(report)?;
+    writeln!(report, "{}", Tally::head())?;
+    report.flush()
+}
+
+/// The disagreements noted since the last time.
+fn faults(floor: &mut Floor, report: &mut dyn Write) -> io::Result<()> {
+    for fault in floor.new_faults() {
+        writeln!(report, "{fault}")?;
+    }
+    report.flush()
+}
+
+/// What the columns of the phases mean.
+const LEGEND: &str = "
+  calls    adds, removes, messages taken in, compactions
+  sent     copies, one message to one box
+  lost     by the radio, or because the box had no power
+  twice    copies that came a second time
+  garbled  copies cut short or changed on the way
+  power    power cuts; what a box had not kept in flash is lost
+  agree    boxes that list what the rule gives over all messages so far
+  answers  0 done; 2 to 7 noise, refused; 10 too far ahead, 11 tombstone full, 12 store full: the box
+           compacts, gets a longer store, or keeps the message and takes it in again later
+";
+
+/// What the numbers meant, and the table of lamps.
+fn foot(floor: &Floor, report: &mut dyn Write) -> io::Result<()> {
+    let (mistakable, left) = (floor.radio.mistakable, floor.most_left());
+    write!(
+        report,
+        "{LEGEND}
+{mistakable} garbled copies read as other messages of the set. The format has no check sum: the radio's
+own must stop these, and here it does.
+Dots that stay in a tombstone after the last compaction: at most {left} of 128 in a box.
+
+Bins that the lamps of each box light at the end of the day, and whether its listing is that of the
+rule of what it accepted and that of one rule of all messages, both computed apart from the boxes:
+
+"
+    )?;
+    for line in floor.lamp_table() {
+        writeln!(report, "{line}")?;
+    }
+    writeln!(report)
+}

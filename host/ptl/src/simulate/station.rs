@@ -1,0 +1,188 @@
+//! One box: its working memory, its flash, and the rule of what it accepted.
+
+use super::goods::SET;
+use crate::engine::Engine;
+use crate::script::{run, Command, Rack, Reply};
+use ptl::{Entry, Listing, State};
+use reference::{read_context, read_message, Rule};
+
+/// The store that the first box starts with, how much longer that of each next one is, and by how
+/// much a store grows that stays full.
+const STORE: usize = 3072;
+const STORE_MORE: usize = 512;
+const STORE_STEP: usize = 1024;
+
+/// What a power cut leaves: the block and the used bytes of the store, kept together. The messages
+/// that the box wrote are kept with them (`Floor::posted`), so that they can be sent again.
+struct Flash {
+    state: State,
+    used: Vec<u8>,
+}
+
+pub struct Station {
+    /// The rack that it serves, 0 to 15 for A to P.
+    pub place: u8,
+    memory: Rack,
+    flash: Flash,
+    rule: Rule,
+    /// By the message's number: whether it was accepted, in a call that was kept.
+    accepted: Vec<bool>,
+    /// Messages refused with 10, 11 or 12, to be taken in again. In working memory only.
+    pub later: Vec<usize>,
+    /// Messages accepted since those were last tried.
+    pub fresh: usize,
+    /// The tick at which the power is back.
+    pub off_until: u64,
+    /// Whether a disagreement of this box was told.
+    pub told: bool,
+}
+
+/// What a call gave.
+pub struct Said {
+    pub answer: u8,
+    pub message: Vec<u8>,
+}
+
+impl Station {
+    /// A box of this actor, set up and kept. The answer of the set-up comes with it.
+    pub fn set_up(engine: &dyn Engine, actor: u8) -> (Station, u8) {
+        let mut station = Station {
+            place: actor.saturating_sub(1),
+            memory: Rack::new(),
+            flash: Flash {
+                state: State::zero(),
+                used: Vec::new(),
+            },
+            rule: Rule::new(actor),
+            accepted: Vec::new(),
+            later: Vec::new(),
+            fresh: 0,
+            off_until: 0,
+            told: false,
+        };
+        let name = SET.to_vec();
+        let said = station.call(engine, &Command::Setup { actor, name });
+        let length = STORE + STORE_MORE * usize::from(station.place);
+        station.lend(engine, length, 0);
+        station.keep();
+        (station, said.answer)
+    }
+
+    pub fn rule(&self) -> &Rule {
+        &self.rule
+    }
+
+    pub fn state(&self) -> &State {
+        &self.memory.state
+    }
+
+    pub fn is_on(&self, tick: u64) -> bool {
+        self.off_until <= tick
+    }
+
+    /// Makes a call in working memory.
+    pub fn call(&mut self, engine: &dyn Engine, command: &Command) -> Said {
+        let mut message = vec![0; command.out()];
+        let reply = run(engine, &mut self.memory, command, &mut message);
+        let written = match &reply {
+            Ok(Reply::Wrote(wrote)) => wrote.written,
+            _ => 0,
+        };
+        message.truncate(written);
+        let answer = reply.ok().and_then(|reply| reply.answer());
+        Said {
+            answer: answer.unwrap_or(0),
+            message,
+        }
+    }
+
+    /// Writes block and used store to flash, both.
+    pub fn keep(&mut self) {
+        self.flash.state = self.memory.state.clone();
+        self.flash.used = self.used().to_vec();
+    }
+
+    /// Whether working memory is what was kept.
+    pub fn is_as_kept(&self) -> bool {
+        self.flash.state == self.memory.state && self.flash.used == self.used()
+    }
+
+    /// The power fails: working memory is lost, and loaded from flash when the box is back. Past
+    /// the used bytes the store then has any content.
+    pub fn lose_power(&mut self, fill: u8, back: u64) {
+        let room = self.memory.store.len();
+        let mut store = self.flash.used.clone();
+        store.resize(room, fill);
+        let state = self.flash.state.clone();
+        self.memory = Rack { state, store };
+        self.later.clear();
+        self.off_until = back;
+    }
+
+    /// Lends a longer store, up to the longest.
+    pub fn lend_more(&mut self, engine: &dyn Engine, fill: u8) {
+        let length = (self.memory.store.len() + STORE_STEP).min(ptl::STORE_MAX);
+        self.lend(engine, length, fill);
+    }
+
+    fn lend(&mut self, engine: &dyn Engine, length: usize, fill: u8) {
+        self.call(engine, &Command::Buffer { length, fill });
+    }
+
+    /// Tells the rule of an accepted call. False if no rule lets such a call be accepted.
+    pub fn tell(&mut self, command: &Command) -> bool {
+        match command {
+            Command::Add { label, context, .. } => {
+                let dots = read_context(context);
+                dots.map(|dots| self.rule.own_add(label, &dots)).is_some()
+            }
+            Command::Remove { context, .. } => {
+                let dots = read_context(context);
+                dots.map(|dots| self.rule.own_remove(&dots)).is_some()
+            }
+            Command::Take { message } => {
+                let message = read_message(message).message;
+                message.map(|message| self.rule.take_in(&message)).is_some()
+            }
+            _ => true,
+        }
+    }
+
+    pub fn accept(&mut self, number: usize) {
+        if self.accepted.len() <= number {
+            self.accepted.resize(number + 1, false);
+        }
+        self.accepted[number] = true;
+    }
+
+    pub fn has_accepted(&self, number: usize) -> bool {
+        self.accepted.get(number).copied().unwrap_or(false)
+    }
+
+    /// The used bytes of the store.
+    pub fn used(&self) -> &[u8] {
+        &self.memory.store[..self.memory.used()]
+    }
+
+    /// What the box lists; none if it refuses.
+    pub fn listing(&self, engine: &dyn Engine) -> Option<Listing> {
+        let Rack { state, store } = &self.memory;
+        let mut bytes = vec![0; self.memory.used()];
+        let listed = engine.list(state, store, &mut bytes);
+        bytes.truncate(listed.written);
+        let labels = listed.labels;
+        (listed.answer == 0).then_some(Listing { bytes, labels })
+    }
+
+    pub fn entries(&self, engine: &dyn Engine) -> Vec<Entry> {
+        let listing = self.listing(engine);
+        listing.map_or(Vec::new(), |listing| listing.entries())
+    }
+
+    /// Whether the lamp of a label is lit.
+    pub fn lights(&self, engine: &dyn Engine, label: &[u8]) -> bool {
+        let Rack { state, store } = &self.memory;
+        let looked = engine.lookup(state, store, label);
+        looked.answer == 0 && looked.listed
+    }
+}

@@ -1,0 +1,204 @@
+//! The simulation finds what it is for: boxes with one fault each are told, with seed and call.
+
+mod faulty;
+
+use super::goods::{label, part_and_bin, Bin, BINS};
+use super::radio::{Cargo, Letter, Radio};
+use super::station::Station;
+use super::tally::Tally;
+use super::weather::Weather;
+use super::{simulate, Options};
+use crate::engine::{Engine, Product};
+use crate::random::Random;
+use crate::script::Command;
+use faulty::{Fault, Faulty};
+use ptl::{dots_to_bytes, Dot, MESSAGE_MAX};
+use std::cell::Cell;
+use std::collections::BTreeSet;
+
+/// A run: its exit status, and what was printed.
+fn run(engine: &dyn Engine, seed: u64, quiet: bool) -> (u8, String) {
+    let mut report = Vec::new();
+    let options = Options {
+        seed,
+        svg: None,
+        quiet,
+    };
+    let status = crate::status(&simulate(engine, &options, &mut report));
+    (status, String::from_utf8(report).expect("ASCII"))
+}
+
+/// The first disagreement that a run with this fault tells of.
+fn told(fault: Fault) -> String {
+    let calls = Cell::new(0);
+    let (status, report) = run(&Faulty { fault, calls }, 7, false);
+    assert_eq!(status, 1, "{fault:?}: {report}");
+    let last = report.lines().last().unwrap_or_default();
+    assert!(last.starts_with("Seen: "), "{fault:?}: {last}");
+    assert!(last.contains("DISAGREED"), "{fault:?}: {last}");
+    let mut lines = report.lines();
+    let first = lines.find(|line| line.starts_with("DISAGREEMENT: seed 7, call "));
+    first.expect("a disagreement").to_string()
+}
+
+#[test]
+fn a_removed_dot_that_is_dropped_is_told() {
+    let line = told(Fault::RemovedDotDropped);
+    let (_, what) = line.split_once(": lists ").expect("what is listed");
+    assert!(what.contains("and should not, by the rule of what it accepted"));
+}
+
+#[test]
+fn a_message_that_is_forgotten_is_told() {
+    assert!(told(Fault::MessageForgotten).ends_with("by the rule of what it accepted"));
+}
+
+#[test]
+fn a_message_that_the_rule_misses_is_told() {
+    let line = told(Fault::MessageUntold);
+    assert!(
+        line.contains("(dot 1:1) and should, by the rule of what it accepted"),
+        "{line}"
+    );
+}
+
+#[test]
+fn a_live_key_that_compaction_drops_is_told() {
+    assert!(told(Fault::LiveKeyDropped).contains("does not list "));
+}
+
+#[test]
+fn a_lamp_that_is_lit_for_a_dead_label_is_told() {
+    assert!(told(Fault::DeadLabelListed).contains("the lamp of "));
+}
+
+#[test]
+fn noise_that_is_accepted_is_told() {
+    assert!(told(Fault::NoiseAccepted).ends_with("accepts what is no call of the rules"));
+}
+
+#[test]
+fn an_own_call_that_is_refused_is_told() {
+    assert!(told(Fault::MemoryLost).ends_with("answers 8 to its own add"));
+}
+
+#[test]
+fn boxes_that_never_get_all_messages_are_told() {
+    let line = told(Fault::RemovesRefused);
+    assert!(
+        line.contains("(evening)") && line.contains("has not accepted "),
+        "{line}"
+    );
+}
+
+#[test]
+fn a_refusal_that_changes_something_is_told() {
+    assert!(told(Fault::RefusalChanges).ends_with("answers 10 and yet changes"));
+}
+
+#[test]
+fn one_seed_is_one_run() {
+    let first = run(&Product, 3, false);
+    assert_eq!(first.0, 0, "{}", first.1);
+    assert_eq!(run(&Product, 3, false), first);
+    let (status, other) = run(&Product, 4, true);
+    assert_eq!(status, 0, "{other}");
+    assert_ne!(first.1.lines().last(), other.lines().last());
+}
+
+/// An add of a label with this context.
+fn add(label: &str, context: &[Dot]) -> Command {
+    Command::Add {
+        label: label.into(),
+        context: dots_to_bytes(context),
+        out: MESSAGE_MAX,
+    }
+}
+
+/// A radio to which this message was given many times, to be garbled mostly.
+fn garbling(message: &[u8]) -> Radio {
+    let (mut radio, mut tally) = (Radio::default(), Tally::default());
+    let mut random = Random::new(1);
+    let weather = Weather {
+        garbled: 90,
+        ..Weather::FAIR
+    };
+    for number in 0..20_000 {
+        let letter = Letter {
+            to: 3,
+            number,
+            message,
+            tick: 0,
+        };
+        radio.send(letter, weather, &mut random, &mut tally);
+    }
+    assert!(radio.mistakable > 100 && tally.garbled > radio.mistakable);
+    radio
+}
+
+/// What arrives is the message, or noise that the product refuses as the rules say.
+#[test]
+fn what_the_radio_garbles_is_refused() {
+    let (mut author, _) = Station::set_up(&Product, 2);
+    let context = [Dot::from((9, 4))];
+    let sent = author.call(&Product, &add("SPRING@C2", &context)).message;
+    let mut radio = garbling(&sent);
+    let mut answers = BTreeSet::new();
+    while let Some(flight) = radio.arrives(u64::MAX) {
+        let (mut station, _) = Station::set_up(&Product, 4);
+        let message = flight.bytes.clone();
+        let answer = station.call(&Product, &Command::Take { message }).answer;
+        match flight.cargo {
+            Cargo::Message(_) => assert_eq!((answer, &flight.bytes), (0, &sent)),
+            Cargo::Noise(expected) => assert_eq!(answer, expected),
+        }
+        answers.insert(answer);
+    }
+    assert_eq!(answers, BTreeSet::from([0, 2, 3, 4, 5, 6, 7]));
+}
+
+#[test]
+fn a_power_cut_leaves_what_was_kept() {
+    let (mut station, answer) = Station::set_up(&Product, 3);
+    assert_eq!(answer, 0);
+    let mut put = |name: &str, keep| {
+        let said = station.call(&Product, &add(name, &[]));
+        assert_eq!(said.answer, 0);
+        match keep {
+            true => station.keep(),
+            false => station.lose_power(0xff, 9),
+        }
+        let entries = station.entries(&Product);
+        let labels = entries.into_iter().map(|entry| entry.label.0);
+        (labels.collect::<Vec<_>>(), said.message)
+    };
+    let (one, two) = (b"SPRING@B7".to_vec(), b"SPRING@C2".to_vec());
+    assert_eq!(put("SPRING@B7", true).0, vec![one.clone()]);
+    let (left, message) = put("SPRING@C2", false);
+    assert_eq!(left, vec![one.clone()]);
+    // What was not kept was never sent: the next add may take its dot.
+    assert_eq!(put("SPRING@C2", true), (vec![one, two], message));
+    assert!(!station.is_on(8) && station.is_on(9));
+}
+
+#[test]
+fn labels_are_read_as_they_are_written() {
+    for rack in 0..16 {
+        for number in 1..=BINS {
+            let bin = Bin { rack, number };
+            assert_eq!(part_and_bin(&label("BOLT-M8", bin)), Some(("BOLT-M8", bin)));
+        }
+    }
+    assert_eq!(Bin { rack: 1, number: 7 }.to_string(), "B7");
+    for other in [
+        "",
+        "B7",
+        "SPRING@",
+        "SPRING@B",
+        "SPRING@B0",
+        "SPRING@B13",
+        "SPRING@b7",
+    ] {
+        assert_eq!(part_and_bin(other.as_bytes()), None, "{other}");
+    }
+}

@@ -1,0 +1,194 @@
+//! `ptl simulate` from outside: five days that end well, the picture, and wrong arguments.
+
+use std::fs;
+use std::path::PathBuf;
+use std::process::{Command, Output, Stdio};
+
+const PHASES: [&str; 5] = ["morning", "work", "lunch", "afternoon", "evening"];
+
+fn simulate(arguments: &[&str]) -> Output {
+    let mut command = Command::new(env!("CARGO_BIN_EXE_ptl"));
+    command.arg("simulate").args(arguments).stdin(Stdio::null());
+    command.output().expect("ptl runs")
+}
+
+fn printed(output: &Output) -> String {
+    String::from_utf8(output.stdout.clone()).expect("ASCII")
+}
+
+/// The line of a phase.
+fn line<'a>(report: &'a str, phase: &str) -> Vec<&'a str> {
+    let lines = report
+        .lines()
+        .skip_while(|line| !line.starts_with("phase "));
+    let mut lines = lines.map(|line| line.split_whitespace().collect::<Vec<_>>());
+    let found = lines.find(|words| words.first() == Some(&phase));
+    found.unwrap_or_default()
+}
+
+#[test]
+fn five_days_end_with_all_boxes_agreed() {
+    for seed in ["1", "2", "3", "4", "5"] {
+        let day = simulate(&["--seed", seed]);
+        let report = printed(&day);
+        assert_eq!(day.status.code(), Some(0), "{report}");
+        assert!(day.stderr.is_empty());
+        for phase in PHASES {
+            assert!(line(&report, phase).len() > 8, "{phase}: {report}");
+        }
+        assert_eq!(line(&report, "lunch")[7], "0/16", "{report}");
+        assert_eq!(line(&report, "evening")[7], "16/16", "{report}");
+        let last = report.lines().last().expect("a last line");
+        assert!(last.starts_with("Seen: right after the move "), "{last}");
+        assert!(
+            last.contains(", at the end 0; 16 of 16 list the "),
+            "{last}"
+        );
+        assert!(!report.contains("DISAGREE"), "{report}");
+    }
+}
+
+#[test]
+fn every_box_lights_the_new_bin_of_the_gas_springs() {
+    let report = printed(&simulate(&[]));
+    let rows = report.lines().skip_while(|line| !line.starts_with("box  "));
+    let rows: Vec<Vec<&str>> = rows
+        .skip(1)
+        .map(|row| row.split_whitespace().collect())
+        .take(16)
+        .collect();
+    for (row, number) in rows.iter().zip(1..) {
+        assert_eq!(row[0], number.to_string());
+        assert!(["B7", "C2"].contains(&row[1]), "{row:?}");
+        assert_eq!(row[2], "C2");
+        assert_eq!(row[row.len() - 2..], ["agrees", "agrees"]);
+    }
+    assert_eq!(rows.len(), 16);
+    assert!(rows.iter().any(|row| row[1] == "B7"), "{report}");
+}
+
+#[test]
+fn quiet_prints_the_last_line_alone() {
+    let (loud, quiet) = (
+        simulate(&["--seed", "9"]),
+        simulate(&["--quiet", "--seed", "9"]),
+    );
+    assert_eq!(quiet.status.code(), Some(0));
+    let (loud, quiet) = (printed(&loud), printed(&quiet));
+    assert_eq!(quiet.lines().count(), 1);
+    assert_eq!(loud.lines().last(), quiet.lines().last());
+}
+
+/// A file of this test's own.
+fn place(name: &str) -> PathBuf {
+    PathBuf::from(env!("CARGO_TARGET_TMPDIR")).join(name)
+}
+
+#[test]
+fn the_picture_is_well_formed_and_has_the_phases() {
+    let file = place("day.svg");
+    let path = file.to_str().expect("text");
+    let day = simulate(&["--svg", path, "--quiet"]);
+    assert_eq!(day.status.code(), Some(0));
+    let svg = fs::read_to_string(&file).expect("a picture");
+    assert_eq!(open_elements(&svg), Ok(Vec::new()));
+    assert_eq!(svg.matches("class=\"phase\"").count(), PHASES.len());
+    for phase in PHASES {
+        assert!(svg.contains(&format!(">{phase}</text>")), "{phase}");
+    }
+    for words in [
+        "boxes that agree",
+        "lamps that are wrong",
+        ">16<",
+        "calls of all boxes",
+    ] {
+        assert!(svg.contains(words), "{words}");
+    }
+    assert_eq!(svg.matches("<polyline points=\"").count(), 2);
+}
+
+#[test]
+fn a_picture_that_cannot_be_written_is_told_at_once() {
+    let file = place("no such directory").join("day.svg");
+    let day = simulate(&["--svg", file.to_str().expect("text")]);
+    assert_eq!(day.status.code(), Some(1));
+    assert!(day.stdout.is_empty());
+    let told = String::from_utf8_lossy(&day.stderr).into_owned();
+    assert!(
+        told.starts_with("ptl: ") && told.contains("day.svg: "),
+        "{told}"
+    );
+}
+
+#[test]
+fn unknown_arguments_print_usage_and_fail() {
+    let unknown: [&[&str]; 12] = [
+        &["x"],
+        &["--help"],
+        &["--seed"],
+        &["--seed", "x"],
+        &["--seed", "-1"],
+        &["--seed", "18446744073709551616"],
+        &["--seed", "1", "--seed", "1"],
+        &["--svg"],
+        &["--svg", "a", "--svg", "a"],
+        &["--quiet", "--quiet"],
+        &["--quiet", "x"],
+        &["--calls", "1"],
+    ];
+    for arguments in unknown {
+        let refused = simulate(arguments);
+        assert_eq!(refused.status.code(), Some(2), "{arguments:?}");
+        assert!(refused.stdout.is_empty(), "{arguments:?}");
+        assert!(refused.stderr.starts_with(b"usage: "), "{arguments:?}");
+    }
+}
+
+/// The elements left open at the end, or what is not well formed. Comments, entities and the like
+/// are not in the picture and not read.
+fn open_elements(svg: &str) -> Result<Vec<String>, String> {
+    let mut open: Vec<String> = Vec::new();
+    let mut rest = svg;
+    while let Some((words, after)) = rest.split_once('<') {
+        if words.contains(['>', '&']) {
+            return Err(words.to_string());
+        }
+        let (tag, after) = after.split_once('>').ok_or("no end of a tag")?;
+        rest = after;
+        if let Some(name) = tag.strip_prefix('/') {
+            if open.pop().as_deref() != Some(name) {
+                return Err(tag.to_string());
+            }
+            continue;
+        }
+        let (body, closed) = match tag.strip_suffix('/') {
+            Some(body) => (body, true),
+            None => (tag, false),
+        };
+        let name = element(body).ok_or(tag)?;
+        if !closed {
+            open.push(name.to_string());
+        }
+    }
+    match rest.trim().is_empty() {
+        true => Ok(open),
+        false => Err(rest.to_string()),
+    }
+}
+
+/// The name of an element, if its attributes are names with quoted values, none twice.
+fn element(body: &str) -> Option<&str> {
+    let (name, mut rest) = body.split_once(' ').unwrap_or((body, ""));
+    let mut seen = Vec::new();
+    while !rest.trim().is_empty() {
+        let (attribute, after) = rest.split_once("=\"")?;
+        let (_, after) = after.split_once('"')?;
+        let attribute = attribute.trim();
+        if attribute.contains(['"', ' ', '<']) || seen.contains(&attribute) {
+            return None;
+        }
+        seen.push(attribute);
+        rest = after;
+    }
+    name.chars().all(char::is_alphanumeric).then_some(name)
+}
