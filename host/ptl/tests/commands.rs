@@ -140,5 +140,5 @@ fn a_quick_bench_passes_in_time() {
     assert_eq!(run.status.code(), Some(0), "{tables}");
     assert!(tables.contains("\nTaking in 2000 messages"), "{tables}");
     assert!(tables.ends_with("Answers and bytes were equal in every run.\n"));
-    assert!(start.elapsed() < Duration::from_secs(20), "{tables}");
+    assert!(start.elapsed() < Duration::from_secs(120), "{tables}");
 }
