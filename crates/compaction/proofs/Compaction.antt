@@ -4,8 +4,9 @@ use mathlib.Core.Path.{_≡_, refl, sym, ap, _∙_}
 use mathlib.Core.Bool.{Bool, true, false, not, cond, _&&_}
 use lib.Dec.{leb}
 use mathlib.Core.List.{List, [], _∷_, _++_, map, append-nil, append-assoc}
+use native.Mathlib.Nat.{sub-self}
 use native.Mathlib.Omega.{arith}
-use lib.ListN.{length, take, drop, replicate, length-append, drop-of-length-le}
+use lib.ListN.{length, take, drop, replicate, length-append, drop-of-length-le, take-append-drop}
 use lib.Seq.{length-take-le, drop-drop}
 use borrow.Author.Tests.{leb-true}
 use Rattle.wire.specs.Lists.{consIf, keep, all, member}
@@ -15,13 +16,14 @@ use Rattle.wire.proofs.Tests.{both, both-right}
 use Rattle.wire.proofs.Parts.{size-part}
 use Rattle.dots.specs.declared.Dot.{Dot}
 use Rattle.dots.specs.Dots.{compareDots}
-use Rattle.dots.specs.Wire.{dotsBytes, dotsOf}
+use Rattle.dots.specs.Wire.{dotsBytes, dotsAt, dotsOf}
 use Rattle.store.specs.Cut.{endToEnd, keyLength, keysAfter, keysOf, keyDot}
 use Rattle.store.specs.Valid.{keysFit}
 use Rattle.compaction.specs.Compaction.{keptKeys, droppedDots, without, inPlaceOf, Compacts}
 use Rattle.compaction.specs.Marks.{unmarked, KeepsPiece, DropsKey, DropsKeys}
+use Rattle.store.proofs.Cut.{endToEnd-keysOf}
 use Rattle.store.proofs.Walk.{end-within, walk-falls, key-size, first-key}
-use Rattle.compaction.proofs.Marks.{without-append, without-none, unmarked-all}
+use Rattle.compaction.proofs.Marks.{keep-whole, without-append, without-none, unmarked-all}
 use Rattle.compaction.proofs.Pieces.{front-cleared, in-place-front}
 
 module _ (dead : Dot → Bool) where
@@ -180,3 +182,18 @@ compacted n used count store tombstone keys′ dots′ marks r q fits few size k
       dots-left = rw (moved, left) (in-place-front (dotsBytes (without gone ds)) tombstone (count * 9) (omega arith));
       count-left = counted ∙ ap length left;
     }
+
+-- a tombstone without dots drops nothing
+pub none-dropped : (n used count : ℕ) (store tombstone : Bytes) → used ≤ length store → count ≡ 0 → Compacts n used count store tombstone store tombstone (record { used = used; count = count })
+unfolding dotsOf dotsAt dotsBytes member keep
+none-dropped n used count store tombstone fits none =
+    let ks : List Bytes = keysOf n (take used store) in
+    let whole : endToEnd (keptKeys (λ d. member compareDots d []) ks) ≡ take used store =
+    ap endToEnd (keep-whole (λ (k : Bytes). true) ks (λ k m. refl)) ∙ endToEnd-keysOf n (take used store) in
+    let size : length (take used store) ≡ used = length-take-le used store fits in
+    rw none (record {
+      keys-left = rw (whole, size, sub-self) (sym (take-append-drop used store));
+      used-left = sym (ap length whole ∙ size);
+      dots-left = refl;
+      count-left = refl;
+    })

@@ -7,6 +7,7 @@ ghost use Rattle.wire.specs.Lists.{member};
 ghost use Rattle.dots.specs.Dots.{compareDots, ascendingDots};
 ghost use Rattle.dots.specs.Wire.{dotsOf, dotsBytes};
 ghost use Rattle.dots.specs.Entries.{entry};
+ghost use Rattle.slots.specs.Slots.{Slotted};
 ghost use Rattle.store.specs.Valid.{keysFit};
 ghost use Rattle.compaction.specs.Compaction.{Compacts, inPlaceOf};
 ghost use Rattle.compaction.specs.Marks.{unmarked, MarksDot, KeepsPiece, DropsKey, DropsKeys};
@@ -19,12 +20,12 @@ pub struct Compacted {
 
 // ---- compaction
 
-// Marks the dot if it is one of the ascending dots. Answers whether it is.
-fn mark_dot(ascending: &[u8], marks: &mut [u8; 128], dot: dots::Dot) -> bool
-    requires { ⌜ (ascendingDots (dotsOf (now ascending)) ≡ true) × (length (now ascending) ≤ 1152) × (length (now marks) ≡ 128) ⌝ }
+// Marks the dot if it is one of the ascending dots, whose slots are set. Answers whether it is.
+fn mark_dot(ascending: &[u8], slots: &[u8; 1024], marks: &mut [u8; 128], dot: dots::Dot) -> bool
+    requires { ⌜ (ascendingDots (dotsOf (now ascending)) ≡ true) × Slotted (dotsOf (now ascending)) (now slots) × (length (now ascending) ≤ 1152) × (length (now marks) ≡ 128) ⌝ }
     ensures { λ r. ⌜ MarksDot dot (dotsOf (now (ascending .entry))) r (now (marks .entry)) (now (marks .exit)) ⌝ }
 {
-    if !contexts::holds_dot(ascending, dot) {
+    if !slots::holds_slotted(ascending, slots, dot) {
         return false;
     }
     let at = contexts::search_dot(ascending, dot);
@@ -51,29 +52,36 @@ fn keep_piece(s: &mut [u8], kept: bool, from: usize, end: usize, to: usize) -> u
 fn drop_key(
     keys: &mut [u8],
     ascending: &[u8],
+    slots: &[u8; 1024],
     marks: &mut [u8; 128],
     from: usize,
     end: usize,
     to: usize,
 ) -> usize
-    requires { ⌜ (to ≤ from) × (from + 10 ≤ end) × (end ≤ length (now keys)) × (ascendingDots (dotsOf (now ascending)) ≡ true) × (length (now ascending) ≤ 1152) × (length (now marks) ≡ 128) ⌝ }
+    requires { ⌜ (to ≤ from) × (from + 10 ≤ end) × (end ≤ length (now keys)) × (ascendingDots (dotsOf (now ascending)) ≡ true) × Slotted (dotsOf (now ascending)) (now slots) × (length (now ascending) ≤ 1152) × (length (now marks) ≡ 128) ⌝ }
     ensures { λ r. ⌜ DropsKey (λ d. member compareDots d (dotsOf (now (ascending .entry)))) (dotsOf (now (ascending .entry))) from end to r (now (keys .entry)) (now (keys .exit)) (now (marks .entry)) (now (marks .exit)) ⌝ }
 {
     let dot = store::key_dot(&keys[from..end]);
-    let gone = mark_dot(ascending, marks, dot);
+    let gone = mark_dot(ascending, slots, marks, dot);
     keep_piece(keys, !gone, from, end, to)
 }
 
 // Drops the keys whose dots are among the ascending dots, and marks these. Returns how many bytes are left; the freed ones become 0.
-fn drop_keys(n: usize, keys: &mut [u8], ascending: &[u8], marks: &mut [u8; 128]) -> usize
-    requires { ⌜ (n ≤ 16) × (keysFit n (now keys) ≡ true) × (ascendingDots (dotsOf (now ascending)) ≡ true) × (length (now ascending) ≤ 1152) × (length (now marks) ≡ 128) ⌝ }
+fn drop_keys(
+    n: usize,
+    keys: &mut [u8],
+    ascending: &[u8],
+    slots: &[u8; 1024],
+    marks: &mut [u8; 128],
+) -> usize
+    requires { ⌜ (n ≤ 16) × (keysFit n (now keys) ≡ true) × (ascendingDots (dotsOf (now ascending)) ≡ true) × Slotted (dotsOf (now ascending)) (now slots) × (length (now ascending) ≤ 1152) × (length (now marks) ≡ 128) ⌝ }
     ensures { λ r. ⌜ DropsKeys (λ d. member compareDots d (dotsOf (now (ascending .entry)))) (dotsOf (now (ascending .entry))) n r (now (keys .entry)) (now (keys .exit)) (now (marks .entry)) (now (marks .exit)) ⌝ }
 {
     let mut from: usize = 0;
     let mut to: usize = 0;
     while from < keys.len() {
         let end = from + store::key_length(n, &keys[from..]);
-        to = drop_key(keys, ascending, marks, from, end, to);
+        to = drop_key(keys, ascending, slots, marks, from, end, to);
         from = end;
     }
     moves::clear(&mut keys[to..]);
@@ -109,8 +117,16 @@ fn compact_in(
     ensures { λ r. ⌜ Compacts n used count (now (store .entry)) (now (tombstone .entry)) (now (store .exit)) (now (tombstone .exit)) r ⌝ }
 {
     let size = count * 9;
+    let mut slots = [0u8; 1024];
+    slots::fill_slots(&tombstone[..size], &mut slots);
     let mut marks = [0u8; 128];
-    let left = drop_keys(n, &mut store[..used], &tombstone[..size], &mut marks);
+    let left = drop_keys(
+        n,
+        &mut store[..used],
+        &tombstone[..size],
+        &slots,
+        &mut marks,
+    );
     let dots_left = drop_dots(&mut tombstone[..size], &marks);
     Compacted {
         used: left,
@@ -129,5 +145,8 @@ pub fn compact(
     requires { ⌜ (n ≤ 16) × (used ≤ length (now store)) × (count ≤ 128) × (length (now tombstone) ≡ 1152) × (keysFit n (take used (now store)) ≡ true) × (ascendingDots (dotsOf (take (count * 9) (now tombstone))) ≡ true) ⌝ }
     ensures { λ r. ⌜ Compacts n used count (now (store .entry)) (now (tombstone .entry)) (now (store .exit)) (now (tombstone .exit)) r ⌝ }
 {
+    if count == 0 {
+        return Compacted { used, count };
+    }
     compact_in(n, store, used, tombstone, count)
 }

@@ -130,7 +130,16 @@ fn add_early(state: calls::State, store: &[u8], label: &[u8], context: &[u8]) ->
     let words = state.clock.words;
     let own = state.actor;
     let base = steps::own_base(&words, own);
-    let damage = steps::damaged(state, store);
+    let damage = steps::damaged(
+        state.actor,
+        &state.name.bytes,
+        state.name.len,
+        &state.clock.words,
+        &state.tombstone.bytes,
+        state.tombstone.count,
+        state.used,
+        store,
+    );
     let named = dots::label_ok(label);
     let bad = steps::context_bad(context);
     let taken = steps::has_next(own, base, context);
@@ -209,7 +218,16 @@ fn remove_early(state: calls::State, store: &[u8], context: &[u8]) -> dots::Answ
     let words = state.clock.words;
     let own = state.actor;
     let base = steps::own_base(&words, own);
-    let damage = steps::damaged(state, store);
+    let damage = steps::damaged(
+        state.actor,
+        &state.name.bytes,
+        state.name.len,
+        &state.clock.words,
+        &state.tombstone.bytes,
+        state.tombstone.count,
+        state.used,
+        store,
+    );
     let dot = steps::context_bad(context);
     let ahead = steps::own_ahead(own, base, context);
     steps::early_answer(damage, false, dot, ahead, false)
@@ -351,7 +369,16 @@ fn take_answer(
     ensures { λ r. ⌜ r ≡ firstOf (takeInRefusals state (now (store .entry)) (now (message .entry))) ⌝ }
 {
     let said = read.answer;
-    let damage = steps::damaged(state, store);
+    let damage = steps::damaged(
+        state.actor,
+        &state.name.bytes,
+        state.name.len,
+        &state.clock.words,
+        &state.tombstone.bytes,
+        state.tombstone.count,
+        state.used,
+        store,
+    );
     let early = dots::first(damage, dots::Answer::Damaged, said);
     if dots::number_of(early) != 0 {
         return early;
@@ -405,15 +432,19 @@ fn list_keys(n: usize, keys: &[u8], tombstone: &[u8], out: &mut [u8]) -> calls::
     requires { ⌜ (n ≤ 16) × (length (now keys) ≤ 65536) × (keysFit n (now keys) ≡ true) × (ascendingDots (dotsOf (now tombstone)) ≡ true) ⌝ }
     ensures { λ r. ⌜ ListsLines (linesOfLive (dotsOf (now (tombstone .entry))) (entriesIn n (now (keys .entry)))) (now (out .entry)) (now (out .exit)) r ⌝ }
 {
-    let size = listing::listing_size(n, keys, tombstone);
-    if out.len() < size.bytes {
-        return calls::Listed {
-            answer: dots::Answer::OutputShort,
-            written: 0,
-            labels: 0,
-        };
+    let mut slots = [0u8; 1024];
+    slots::fill_slots(tombstone, &mut slots);
+    if out.len() < keys.len() {
+        let size = listing::listing_size(n, keys, tombstone, &slots);
+        if out.len() < size.bytes {
+            return calls::Listed {
+                answer: dots::Answer::OutputShort,
+                written: 0,
+                labels: 0,
+            };
+        }
     }
-    listing::write_listing(n, keys, tombstone, out);
+    let size = listing::write_listing(n, keys, tombstone, &slots, out);
     calls::Listed {
         answer: dots::Answer::Done,
         written: size.bytes,
@@ -441,7 +472,16 @@ fn list_used(
 pub fn list(state: calls::State, store: &[u8], out: &mut [u8]) -> calls::Listed
     ensures { λ r. ⌜ Lists (listResult state (now (store .entry)) (now (out .entry))) (now (out .exit)) r ⌝ }
 {
-    if steps::damaged(state, store) {
+    if steps::damaged(
+        state.actor,
+        &state.name.bytes,
+        state.name.len,
+        &state.clock.words,
+        &state.tombstone.bytes,
+        state.tombstone.count,
+        state.used,
+        store,
+    ) {
         return calls::Listed {
             answer: dots::Answer::Damaged,
             written: 0,
@@ -485,7 +525,16 @@ fn any_listed(n: usize, keys: &[u8], tombstone: calls::Tombstone) -> bool
 fn lookup_number(state: calls::State, store: &[u8], label: &[u8]) -> u8
     ensures { λ r. ⌜ r ≡ numberOf (firstOf (lookupRefusals state (now (store .entry)) (now (label .entry)))) ⌝ }
 {
-    let damage = steps::damaged(state, store);
+    let damage = steps::damaged(
+        state.actor,
+        &state.name.bytes,
+        state.name.len,
+        &state.clock.words,
+        &state.tombstone.bytes,
+        state.tombstone.count,
+        state.used,
+        store,
+    );
     let labelled = dots::label_ok(label);
     dots::number_of(steps::early_answer(damage, !labelled, false, false, false))
 }
@@ -540,7 +589,16 @@ fn compact_whole(state: calls::State, store: &mut [u8]) -> calls::State
 pub fn compact(state: calls::State, store: &mut [u8]) -> calls::Outcome
     ensures { λ r. ⌜ Leaves (compactResult state (now (store .entry))) (now (store .exit)) [] r ⌝ }
 {
-    if steps::damaged(state, store) {
+    if steps::damaged(
+        state.actor,
+        &state.name.bytes,
+        state.name.len,
+        &state.clock.words,
+        &state.tombstone.bytes,
+        state.tombstone.count,
+        state.used,
+        store,
+    ) {
         return calls::Outcome {
             answer: dots::Answer::Damaged,
             state: state,

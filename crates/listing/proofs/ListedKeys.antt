@@ -1,16 +1,17 @@
 -- A listing's walk over keys: each key has room for its fields, says one entry, and leaves the entries of the keys after it. Assumes nothing.
 use mathlib.Core.Path.{_≡_, refl, sym, ap, _∙_}
+use mathlib.Core.Logic.{_⊎_, inl, inr}
 use mathlib.Core.Bool.{Bool, true, false, not, cond, _&&_}
 use mathlib.Core.List.{List, [], _∷_}
-use Prim.Native.Nat.{ℕ, _+_, _-_, _*_, _≤_, _<_}
+use Prim.Native.Nat.{ℕ, zero, suc, _+_, _-_, _*_, _≤_, _<_}
 use native.Mathlib.Omega.{arith}
-use lib.Dec.{leb}
+use lib.Dec.{leb, ltb}
 use lib.ListN.{length, take, drop, length-take, drop-of-length-le}
 use lib.Seq.{take-take, drop-drop}
-use borrow.Author.Tests.{leb-true}
+use borrow.Author.Tests.{leb-true, ltb-true, ltb-false}
 use Rattle.wire.specs.Lists.{keep, any, all, member}
 use Rattle.wire.specs.Bytes.{Bytes, between, partAt, putAt}
-use Rattle.wire.proofs.Tests.{both-left, both-right}
+use Rattle.wire.proofs.Tests.{both-left, both-right, decided}
 use Rattle.wire.proofs.Parts.{drop-take, size-part}
 use Rattle.dots.specs.declared.Dot.{Dot}
 use Rattle.dots.specs.Names.{labelMost}
@@ -23,7 +24,7 @@ use Rattle.store.specs.Valid.{keysFit}
 use Rattle.listing.specs.Listing.{liveEntries, linesOfLive, listingBytes}
 use Rattle.listing.specs.Writing.{KeyAt, lineLabel, noLine, longerLine, newLine, isOpen, nextLine, dotWritten}
 use Rattle.store.proofs.Walk.{first-key, key-size, end-within}
-use Rattle.listing.proofs.OpenLines.{Listed, listed-start, listed-room, listed-line, next-label, entry-listed}
+use Rattle.listing.proofs.OpenLines.{Listed, listed-start, listed-room, listed-end, listed-line, next-label, entry-listed}
 
 -- ---- the key at a place
 
@@ -132,6 +133,12 @@ pub walk-end : (n : ℕ) (keys : Bytes) (tombstone : List Dot) (at : ℕ) (l : O
 unfolding keep
 walk-end n keys tombstone at l bytes s h = rw (no-entries n keys at h) at (s .listed)
 
+walk-short : (n : ℕ) (keys : Bytes) (tombstone : List Dot) (at : ℕ) (l : OpenLine) (bytes : Bytes) → Walked n keys tombstone at l bytes → length keys ≤ at
+    → length (listingBytes (linesOfLive tombstone (entriesIn n keys))) ≤ length keys
+walk-short n keys tombstone at l bytes s h =
+    let end = listed-end (linesOfLive tombstone (entriesIn n keys)) keys l bytes (walk-end n keys tombstone at l bytes s h) in
+    omega (arith, end .1, s .bounded .few-bytes, s .within)
+
 -- one key more
 module _ (n : ℕ) (keys : Bytes) (tombstone : List Dot) (at : ℕ) (l : OpenLine) (bytes : Bytes) (s : Walked n keys tombstone at l bytes) (k : ListedKey) (key : KeyAt n keys tombstone at k) where
   -- the line and the label are such as `next_line` takes
@@ -191,3 +198,39 @@ module _ (n : ℕ) (keys : Bytes) (tombstone : List Dot) (at : ℕ) (l : OpenLin
         let now = after .listed .size in
         let within = listed-room whole keys r (walk-live .after) rest (after .listed) in
         (omega arith, is .1, omega arith, taken, omega arith)
+
+-- ---- a listing is no longer than its keys
+
+module _ (n : ℕ) (keys : Bytes) (tombstone : List Dot) where
+  abbrev Shorter : Type 0
+  Shorter = length (listingBytes (linesOfLive tombstone (entriesIn n keys))) ≤ length keys
+
+  -- from a place on, with the line that the listing has come to there
+  walk-within : (fuel at : ℕ) (l : OpenLine) (bytes : Bytes) → Walked n keys tombstone at l bytes → length keys ≤ at + fuel → Shorter
+  walk-within zero at l bytes s h = walk-short n keys tombstone at l bytes s (omega arith)
+  walk-within (suc fuel) at l bytes s h = go (walk-within fuel) (decided (ltb at (length keys)))
+    where
+      go : ((at′ : ℕ) (l′ : OpenLine) (bytes′ : Bytes) → Walked n keys tombstone at′ l′ bytes′ → length keys ≤ at′ + fuel → Shorter) → (ltb at (length keys) ≡ true) ⊎ (ltb at (length keys) ≡ false) → Shorter
+      go below (inr f) = walk-short n keys tombstone at l bytes s (ltb-false at (length keys) f)
+      go below (inl t) = next (decided (k .live))
+        where
+          key-len : ℕ
+          key-len = keyLength n (take (length keys - at) (drop at keys))
+
+          dot : Dot
+          dot = keyDot (take (at + key-len - at) (drop at keys))
+
+          k : ListedKey
+          k = record { from = at + n + 4; to = at + key-len - 11; end = at + key-len; dot = dot; live = not (member compareDots dot tombstone) }
+
+          key : KeyAt n keys tombstone at k
+          key = key-at n keys at key-len (ltb-true at (length keys) t) (s .fit) refl tombstone dot (member compareDots dot tombstone) refl refl
+
+          next : (k .live ≡ true) ⊎ (k .live ≡ false) → Shorter
+          next (inl live) =
+              let passed = walk-live n keys tombstone at l bytes s k key live (nextLine keys l (k .from) (k .to)) refl in
+              below (k .end) _ (passed .after) (passed .walked) (omega (arith, key .low))
+          next (inr dead) = below (k .end) l bytes (walk-dead n keys tombstone at l bytes s k key dead) (omega (arith, key .low))
+
+  pub listing-within : keysFit n keys ≡ true → Shorter
+  listing-within fit = walk-within (length keys) 0 noLine [] (walk-start n keys tombstone fit) (omega arith)

@@ -9,6 +9,7 @@ ghost use Rattle.wire.specs.Bytes.{compareBytes, bigEndian};
 ghost use Rattle.dots.specs.Dots.{compareDots, ascendingDots};
 ghost use Rattle.dots.specs.Wire.{dotsOf};
 ghost use Rattle.dots.specs.Entries.{Entry, entry};
+ghost use Rattle.slots.specs.Slots.{Slotted};
 ghost use Rattle.store.specs.Cut.{entriesIn};
 ghost use Rattle.store.specs.Valid.{keysFit};
 ghost use Rattle.listing.specs.Listing.{linesOfLive, listingBytes};
@@ -42,14 +43,14 @@ struct ListedKey {
     live: bool,
 }
 
-// The key at a place.
-fn listed_key(n: usize, keys: &[u8], tombstone: &[u8], at: usize) -> ListedKey
-    requires { ⌜ (n ≤ 16) × (at < length (now keys)) × (keysFit n (drop at (now keys)) ≡ true) × (ascendingDots (dotsOf (now tombstone)) ≡ true) ⌝ }
+// The key at a place, with the slots of the tombstone's dots.
+fn listed_key(n: usize, keys: &[u8], tombstone: &[u8], slots: &[u8; 1024], at: usize) -> ListedKey
+    requires { ⌜ (n ≤ 16) × (at < length (now keys)) × (keysFit n (drop at (now keys)) ≡ true) × (ascendingDots (dotsOf (now tombstone)) ≡ true) × Slotted (dotsOf (now tombstone)) (now slots) ⌝ }
     ensures { λ r. ⌜ KeyAt n (now (keys .entry)) (dotsOf (now (tombstone .entry))) at r ⌝ }
 {
     let end = at + store::key_length(n, &keys[at..]);
     let dot = store::key_dot(&keys[at..end]);
-    let dead = contexts::holds_dot(tombstone, dot);
+    let dead = slots::holds_slotted(tombstone, slots, dot);
     ListedKey {
         from: at + n + 4,
         to: end - 11,
@@ -64,9 +65,13 @@ pub fn any_live(n: usize, keys: &[u8], tombstone: &[u8]) -> bool
     requires { ⌜ (n ≤ 16) × (keysFit n (now keys) ≡ true) × (ascendingDots (dotsOf (now tombstone)) ≡ true) ⌝ }
     ensures { λ r. ⌜ r ≡ any (λ (e : Entry). not (member compareDots (e .dot) (dotsOf (now (tombstone .entry))))) (entriesIn n (now (keys .entry))) ⌝ }
 {
+    if keys.len() == 0 {
+        return false;
+    }
+    let slots = [1u8; 1024];
     let mut at: usize = 0;
     while at < keys.len() {
-        let stored = listed_key(n, keys, tombstone, at);
+        let stored = listed_key(n, keys, tombstone, &slots, at);
         if stored.live {
             return true;
         }
@@ -111,8 +116,8 @@ fn next_line(keys: &[u8], line: OpenLine, from: usize, to: usize) -> OpenLine
 }
 
 // How long the listing is, and how many labels it has.
-pub fn listing_size(n: usize, keys: &[u8], tombstone: &[u8]) -> ListingSize
-    requires { ⌜ (n ≤ 16) × (length (now keys) ≤ 65536) × (keysFit n (now keys) ≡ true) × (ascendingDots (dotsOf (now tombstone)) ≡ true) ⌝ }
+pub fn listing_size(n: usize, keys: &[u8], tombstone: &[u8], slots: &[u8; 1024]) -> ListingSize
+    requires { ⌜ (n ≤ 16) × (length (now keys) ≤ 65536) × (keysFit n (now keys) ≡ true) × (ascendingDots (dotsOf (now tombstone)) ≡ true) × Slotted (dotsOf (now tombstone)) (now slots) ⌝ }
     ensures { λ r. ⌜ (r .bytes ≡ length (listingBytes (linesOfLive (dotsOf (now (tombstone .entry))) (entriesIn n (now (keys .entry)))))) × (r .labels ≡ length (linesOfLive (dotsOf (now (tombstone .entry))) (entriesIn n (now (keys .entry))))) ⌝ }
 {
     let mut line = OpenLine {
@@ -124,7 +129,7 @@ pub fn listing_size(n: usize, keys: &[u8], tombstone: &[u8]) -> ListingSize
     };
     let mut at: usize = 0;
     while at < keys.len() {
-        let key = listed_key(n, keys, tombstone, at);
+        let key = listed_key(n, keys, tombstone, slots, at);
         if key.live {
             line = next_line(keys, line, key.from, key.to);
         }
@@ -167,10 +172,16 @@ fn write_dot(out: &mut [u8], end: usize, count: usize, label: &[u8], dot: dots::
     moves::put(out, end - 9, &dots::dot_bytes(dot));
 }
 
-// Writes the listing at the front of out; the rest keeps its values.
-pub fn write_listing(n: usize, keys: &[u8], tombstone: &[u8], out: &mut [u8])
-    requires { ⌜ (n ≤ 16) × (length (now keys) ≤ 65536) × (keysFit n (now keys) ≡ true) × (ascendingDots (dotsOf (now tombstone)) ≡ true) × (length (listingBytes (linesOfLive (dotsOf (now tombstone)) (entriesIn n (now keys)))) ≤ length (now out)) ⌝ }
-    ensures { λ _. ⌜ now (out .exit) ≡ listingBytes (linesOfLive (dotsOf (now (tombstone .entry))) (entriesIn n (now (keys .entry)))) ++ drop (length (listingBytes (linesOfLive (dotsOf (now (tombstone .entry))) (entriesIn n (now (keys .entry)))))) (now (out .entry)) ⌝ }
+// Writes the listing at the front of out; the rest keeps its values. Returns how long it is, and how many labels it has.
+pub fn write_listing(
+    n: usize,
+    keys: &[u8],
+    tombstone: &[u8],
+    slots: &[u8; 1024],
+    out: &mut [u8],
+) -> ListingSize
+    requires { ⌜ (n ≤ 16) × (length (now keys) ≤ 65536) × (keysFit n (now keys) ≡ true) × (ascendingDots (dotsOf (now tombstone)) ≡ true) × Slotted (dotsOf (now tombstone)) (now slots) × (length (listingBytes (linesOfLive (dotsOf (now tombstone)) (entriesIn n (now keys)))) ≤ length (now out)) ⌝ }
+    ensures { λ r. ⌜ (r .bytes ≡ length (listingBytes (linesOfLive (dotsOf (now (tombstone .entry))) (entriesIn n (now (keys .entry)))))) × (r .labels ≡ length (linesOfLive (dotsOf (now (tombstone .entry))) (entriesIn n (now (keys .entry))))) × (now (out .exit) ≡ listingBytes (linesOfLive (dotsOf (now (tombstone .entry))) (entriesIn n (now (keys .entry)))) ++ drop (length (listingBytes (linesOfLive (dotsOf (now (tombstone .entry))) (entriesIn n (now (keys .entry)))))) (now (out .entry))) ⌝ }
 {
     let mut line = OpenLine {
         from: 0,
@@ -181,7 +192,7 @@ pub fn write_listing(n: usize, keys: &[u8], tombstone: &[u8], out: &mut [u8])
     };
     let mut at: usize = 0;
     while at < keys.len() {
-        let key = listed_key(n, keys, tombstone, at);
+        let key = listed_key(n, keys, tombstone, slots, at);
         if key.live {
             let from = key.from;
             let to = key.to;
@@ -189,5 +200,9 @@ pub fn write_listing(n: usize, keys: &[u8], tombstone: &[u8], out: &mut [u8])
             write_dot(out, line.bytes, line.count, &keys[from..to], key.dot);
         }
         at = key.end;
+    }
+    ListingSize {
+        bytes: line.bytes,
+        labels: line.labels,
     }
 }

@@ -1,16 +1,15 @@
 // Order of bytes, the first 0 and common starts, several bytes at a time.
 ghost use mathlib.Core.Path.{_≡_};
-ghost use Prim.Native.Nat.{_+_, _≤_};
-ghost use lib.Dec.{leb};
-ghost use lib.ListN.{length, drop};
-ghost use Rattle.wire.specs.Lists.{all, isLt};
-ghost use Rattle.wire.specs.Bytes.{partAt, compareBytes, zeroAt, startsWith};
+ghost use Prim.Native.Nat.{_+_, _≤_, min};
+ghost use lib.ListN.{length, take, drop};
+ghost use Rattle.wire.specs.Lists.{isLt};
+ghost use Rattle.wire.specs.Bytes.{partAt, compareBytes, littleEndian, zeroAt, startsWith};
 
-// ---- order and search, by blocks of bytes and the last ones one by one
+// ---- order and search, by words of several bytes
 
-// A number that is no more than either.
+// The smaller of two numbers.
 fn smaller(a: usize, b: usize) -> usize
-    ensures { λ r. ⌜ (r ≤ a) × (r ≤ b) ⌝ }
+    ensures { λ r. ⌜ r ≡ min a b ⌝ }
 {
     if a < b { a } else { b }
 }
@@ -35,12 +34,12 @@ fn lower_from(a: &[u8], b: &[u8], from: usize) -> bool
     i < b.len()
 }
 
-// Whether a comes before b in byte order.
-pub fn lower(a: &[u8], b: &[u8]) -> bool
+// Whether a comes before b, where the first 8 bytes are the same and n is the shorter length: by words, the last of which ends at n.
+fn lower_words(a: &[u8], b: &[u8], n: usize) -> bool
+    requires { ⌜ ((8 ≤ n) × (n ≡ min (length (now a)) (length (now b)))) × (take 8 (now a) ≡ take 8 (now b)) ⌝ }
     ensures { λ r. ⌜ r ≡ isLt (compareBytes (now (a .entry)) (now (b .entry))) ⌝ }
 {
-    let n = smaller(a.len(), b.len());
-    let mut i = 0;
+    let mut i = 8;
     while i + 8 <= n {
         let x = wire::number_at(a, i);
         let y = wire::number_at(b, i);
@@ -49,36 +48,36 @@ pub fn lower(a: &[u8], b: &[u8]) -> bool
         }
         i += 8;
     }
-    lower_from(a, b, i)
-}
-
-// Whether none of the 8 bytes from a place on is 0.
-fn nonzero_8(s: &[u8], at: usize) -> bool
-    requires { ⌜ at + 8 ≤ length (now s) ⌝ }
-    ensures { λ r. ⌜ r ≡ all (leb 1) (partAt (now (s .entry)) at 8) ⌝ }
-{
-    (1 <= s[at])
-        & (1 <= s[at + 1])
-        & (1 <= s[at + 2])
-        & (1 <= s[at + 3])
-        & (1 <= s[at + 4])
-        & (1 <= s[at + 5])
-        & (1 <= s[at + 6])
-        & (1 <= s[at + 7])
-}
-
-// A place with no 0 before it: where the first block of 8 with a 0 begins, or the last bytes, fewer than 8.
-fn nonzero_blocks(s: &[u8]) -> usize
-    ensures { λ r. ⌜ (zeroAt (now (s .entry)) ≡ r + zeroAt (drop r (now (s .entry)))) × (r ≤ length (now (s .entry))) ⌝ }
-{
-    let mut i = 0;
-    while i + 8 <= s.len() {
-        if !nonzero_8(s, i) {
-            return i;
-        }
-        i += 8;
+    let x = wire::number_at(a, n - 8);
+    let y = wire::number_at(b, n - 8);
+    if x != y {
+        return x < y;
     }
-    i
+    a.len() < b.len()
+}
+
+// Whether a comes before b in byte order. The first word is looked at apart: most labels differ there.
+pub fn lower(a: &[u8], b: &[u8]) -> bool
+    ensures { λ r. ⌜ r ≡ isLt (compareBytes (now (a .entry)) (now (b .entry))) ⌝ }
+{
+    let n = smaller(a.len(), b.len());
+    if n < 8 {
+        return lower_from(a, b, 0);
+    }
+    let x = wire::number_at(a, 0);
+    let y = wire::number_at(b, 0);
+    if x != y {
+        return x < y;
+    }
+    lower_words(a, b, n)
+}
+
+// The index of the lowest byte of a word that is 0, and 8 if none is.
+pub fn first_zero(w: u64) -> usize
+    ensures { λ r. ⌜ (r ≡ zeroAt (littleEndian 8 w)) × (r ≤ 8) ⌝ }
+{
+    let marks = std::num::wrapping_sub_u64(w, 0x0101010101010101) & !w & 0x8080808080808080;
+    (u64::trailing_zeros(marks) / 8) as usize
 }
 
 // The index of the first 0 of s from a place on, or the length of s.
@@ -96,11 +95,34 @@ fn zero_from(s: &[u8], from: usize) -> usize
     i
 }
 
-// The index of the first 0 of s, or its length.
+// The index of the first 0 of s from a place on, or the length of s: by words, the last bytes one by one.
+fn zero_after(s: &[u8], from: usize) -> usize
+    requires { ⌜ from ≤ length (now s) ⌝ }
+    ensures { λ r. ⌜ (r ≡ from + zeroAt (drop from (now (s .entry)))) × (r ≤ length (now (s .entry))) ⌝ }
+{
+    let mut i = from;
+    while i + 8 <= s.len() {
+        let z = first_zero(wire::low_at(s, i));
+        if z < 8 {
+            return i + z;
+        }
+        i += 8;
+    }
+    zero_from(s, i)
+}
+
+// The index of the first 0 of s, or its length. The first word is looked at apart: most labels end there.
 pub fn zero_at(s: &[u8]) -> usize
     ensures { λ r. ⌜ (r ≡ zeroAt (now (s .entry))) × (r ≤ length (now (s .entry))) ⌝ }
 {
-    zero_from(s, nonzero_blocks(s))
+    if s.len() < 8 {
+        return zero_from(s, 0);
+    }
+    let z = first_zero(wire::low_at(s, 0));
+    if z < 8 {
+        return z;
+    }
+    zero_after(s, 8)
 }
 
 // Whether s, which is no shorter than a, begins with a from a place on.
@@ -118,19 +140,58 @@ fn starts_from(a: &[u8], s: &[u8], from: usize) -> bool
     true
 }
 
-// Whether s begins with a. What is asked is short, so it goes by 4 bytes.
+// Whether the 4 bytes from a place on are the same in a and s.
+fn same_half(a: &[u8], s: &[u8], at: usize) -> bool
+    requires { ⌜ (at + 4 ≤ length (now a)) × (at + 4 ≤ length (now s)) ⌝ }
+    ensures { λ r. ⌜ r ≡ startsWith (partAt (now (a .entry)) at 4) (drop at (now (s .entry))) ⌝ }
+{
+    wire::low_half_at(s, at) == wire::low_half_at(a, at)
+}
+
+// Whether the 8 bytes from a place on are the same in a and s.
+fn same_word(a: &[u8], s: &[u8], at: usize) -> bool
+    requires { ⌜ (at + 8 ≤ length (now a)) × (at + 8 ≤ length (now s)) ⌝ }
+    ensures { λ r. ⌜ r ≡ startsWith (partAt (now (a .entry)) at 8) (drop at (now (s .entry))) ⌝ }
+{
+    wire::low_at(s, at) == wire::low_at(a, at)
+}
+
+// Whether s, which is no shorter, begins with a of 8 bytes or more: by words, the last of which ends with a.
+fn starts_words(a: &[u8], s: &[u8]) -> bool
+    requires { ⌜ (8 ≤ length (now a)) × (length (now a) ≤ length (now s)) ⌝ }
+    ensures { λ r. ⌜ r ≡ startsWith (now (a .entry)) (now (s .entry)) ⌝ }
+{
+    let n = a.len();
+    let mut i = 0;
+    while i + 8 <= n {
+        if !same_word(a, s, i) {
+            return false;
+        }
+        i += 8;
+    }
+    same_word(a, s, n - 8)
+}
+
+// Whether s begins with a. What is asked is short, so up to 24 bytes go with no loop, by pieces that may overlap.
 pub fn starts_with(a: &[u8], s: &[u8]) -> bool
     ensures { λ r. ⌜ r ≡ startsWith (now (a .entry)) (now (s .entry)) ⌝ }
 {
-    if s.len() < a.len() {
+    let n = a.len();
+    if s.len() < n {
         return false;
     }
-    let mut i = 0;
-    while i + 4 <= a.len() {
-        if wire::half_at(s, i) != wire::half_at(a, i) {
-            return false;
-        }
-        i += 4;
+    if n < 4 {
+        return starts_from(a, s, 0);
     }
-    starts_from(a, s, i)
+    if n <= 8 {
+        return same_half(a, s, 0) & same_half(a, s, n - 4);
+    }
+    let ends = same_word(a, s, 0) & same_word(a, s, n - 8);
+    if n <= 16 {
+        return ends;
+    }
+    if n <= 24 {
+        return ends & same_word(a, s, 8);
+    }
+    starts_words(a, s)
 }

@@ -5,10 +5,11 @@ use mathlib.Core.Bool.{Bool, true, false, not, cond, _&&_, or-false}
 use mathlib.Core.List.{[], _∷_}
 use native.Mathlib.Omega.{arith}
 use lib.Dec.{ltb}
-use lib.ListN.{length}
+use lib.ListN.{length, take}
 use lib.Seq.{length-take-le}
 use Rattle.wire.specs.Lists.{any, all}
-use Rattle.wire.specs.Bytes.{Bytes}
+use Rattle.wire.specs.Bytes.{Bytes, startsWith}
+use Rattle.wire.proofs.Tests.{both}
 use Rattle.dots.specs.declared.Dot.{Dot}
 use Rattle.dots.specs.Names.{Label, nameOk, labelOk}
 use Rattle.dots.specs.Dots.{dotOk}
@@ -17,9 +18,12 @@ use Rattle.dots.specs.Entries.{Entry, entry}
 use Rattle.dots.proofs.Rules.{ascending-valid}
 use Rattle.clock.specs.Row.{windowWidth}
 use Rattle.clock.specs.Clock.{sees, joinAll}
-use Rattle.keys.specs.Entry.{entryKey}
+use Rattle.keys.specs.Entry.{prefix, entryKey}
 use Rattle.keys.proofs.EntryKeys.{length-entry-key}
+use Rattle.store.specs.Cut.{keysOf}
+use Rattle.store.specs.Valid.{usedOk, storeOk}
 use Rattle.store.specs.Place.{insertedEntry}
+use Rattle.store.proofs.OnePass.{used-begin}
 use Rattle.replica.specs.Machine.{ifUnseen}
 use Rattle.calls.specs.declared.State.{State}
 use Rattle.calls.specs.State.{clockModel, nameOf, view}
@@ -51,6 +55,10 @@ module _ (st : State) (store label context : Bytes) (d : Dot) (m : MayApply st s
   ok : all dotOk (dotsOf context) ≡ true
   ok = ascending-valid (dotsOf context) (m .joins .fits .ascends)
 
+  used-ok : usedOk (nameOf st) (st .clock .words) (take (st .used) store) ≡ true
+  unfolding storeOk
+  used-ok = let stored = u .stored in search both
+
   named : length (nameOf st) ≡ st .name .len
   named = name-length st (m .name-size) (m .joins .state-ok)
 
@@ -64,12 +72,13 @@ module _ (st : State) (store label context : Bytes) (d : Dot) (m : MayApply st s
         )
 
     pub entry-fits : seen ≡ false
-        → (st .name .len ≤ length (st .name .bytes)) × (nameOk (nameOf st) ≡ true) × (labelOk label ≡ true) × (st .used + (st .name .len + length label + 15) ≤ length store)
+        → (st .name .len ≤ length (st .name .bytes)) × (nameOk (nameOf st) ≡ true) × (labelOk label ≡ true)
+        × (all (startsWith (prefix (nameOf st))) (keysOf (length (nameOf st)) (take (st .used) store)) ≡ true) × (st .used + (st .name .len + length label + 15) ≤ length store)
     entry-fits t =
         let k = kept st (m .joins .state-ok) in
         let size = m .name-size in
         let short = k .short in
-        (omega arith, k .named, m .labelled, m .room-for (sym e ∙ t))
+        (omega arith, k .named, m .labelled, used-begin (nameOf st) (st .clock .words) (take (st .used) store) used-ok, m .room-for (sym e ∙ t))
 
     pub apply-stored : seen ≡ false → (r : State) (grown : ℕ) (store′ : Bytes) → grown ≡ st .used + (st .name .len + length label + 15)
         → store′ ≡ insertedEntry (nameOf st) store (st .used) (entry label d)

@@ -24,6 +24,11 @@ use Rattle.calls.specs.State.{clockModel, Machine, tombstoneDots, view}
 use Rattle.calls.specs.Damage.{stateNameOk, tombstoneMost, tombstoneOk, damaged}
 use Rattle.calls.specs.Effect.{padded}
 
+-- the state of these parts
+abbrev pub stateFrom : Actor → Bytes → ℕ → List ℕ → Bytes → ℕ → ℕ → State
+stateFrom own name len words tombstone count used =
+    record { actor = own; name = record { bytes = name; len = len }; clock = record { words = words }; tombstone = record { bytes = tombstone; count = count }; used = used }
+
 -- what is undamaged whatever the store is
 unfoldable pub stateOk : State → Bool
 stateOk st = actorOk (st .actor .number) && (stateNameOk st && (clockOk windowWidth (st .actor .number) (st .clock .words) && tombstoneOk st))

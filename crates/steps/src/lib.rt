@@ -14,11 +14,14 @@ ghost use Rattle.clock.specs.Clock.{sees, rowAt, joinAll, near};
 ghost use Rattle.clock.specs.Row.{windowWidth};
 ghost use Rattle.clock.specs.Reach.{Offer, OfferWith};
 ghost use Rattle.dots.specs.Entries.{entry};
+ghost use Rattle.wire.specs.Bytes.{startsWith};
+ghost use Rattle.keys.specs.Entry.{prefix};
+ghost use Rattle.store.specs.Cut.{keysOf};
 ghost use Rattle.store.specs.Place.{insertedEntry};
 ghost use Rattle.store.specs.Valid.{storeOk};
 ghost use Rattle.calls.specs.Damage.{zeroFrom, tombstoneMost, damaged as isDamaged};
 ghost use Rattle.calls.specs.State.{tombstoneDots};
-ghost use Rattle.steps.specs.Tests.{stateOk, stateWith, aheadOf, joinsTombstone, Tombstoned, Padded, ContextFits, earlyRefusals, lateRefusals, addLate, removeLate, MayOffer, MayJoin, MayApply, applied};
+ghost use Rattle.steps.specs.Tests.{stateOk, stateFrom, stateWith, aheadOf, joinsTombstone, Tombstoned, Padded, ContextFits, earlyRefusals, lateRefusals, addLate, removeLate, MayOffer, MayJoin, MayApply, applied};
 ghost use Rattle.calls.specs.Refusals.{badContext};
 ghost use Rattle.calls.specs.Effect.{tombstoneOf, stateOf, storeOf};
 
@@ -65,7 +68,7 @@ fn set_name_ok(bytes: &[u8], len: usize) -> bool
 }
 
 // Whether the first count dots are a tombstone of the clock, and the other bytes 0.
-fn tombstone_ok(words: &[u64; 32], bytes: &[u8], count: usize) -> bool
+fn tombstone_ok<'a>(words: &'a [u64; 32], bytes: &'a [u8], count: usize) -> bool
     requires { ⌜ length (now bytes) ≡ 1152 ⌝ }
     ensures { λ r. ⌜ r ≡ (leb count tombstoneMost && (ascendingDots (dotsOf (take (count * 9) (now (bytes .entry)))) && (all (sees (now (words .entry))) (dotsOf (take (count * 9) (now (bytes .entry)))) && zeroFrom (count * 9) (now (bytes .entry))))) ⌝ }
 {
@@ -79,39 +82,54 @@ fn tombstone_ok(words: &[u64; 32], bytes: &[u8], count: usize) -> bool
 }
 
 // Whether actor, set name, clock and tombstone keep their rules.
-fn state_ok(state: calls::State) -> bool
-    ensures { λ r. ⌜ r ≡ stateOk state ⌝ }
+fn state_ok<'a>(
+    own: dots::Actor,
+    name: &'a [u8; 16],
+    len: usize,
+    words: &'a [u64; 32],
+    tombstone: &'a [u8; 1152],
+    count: usize,
+) -> bool
+    ensures { λ r. ⌜ r ≡ stateOk (stateFrom own (now (name .entry)) len (now (words .entry)) (now (tombstone .entry)) count 0) ⌝ }
 {
-    let actor = state.actor;
-    let name = state.name.bytes;
-    let tombstone = state.tombstone.bytes;
-    let words = state.clock.words;
-    let named = set_name_ok(&name, state.name.len);
-    let rows = clock::clock_ok(actor, &words);
-    let removed = tombstone_ok(&words, &tombstone, state.tombstone.count);
-    ((1 <= actor.number) & (actor.number <= 16)) & (named & (rows & removed))
+    let named = set_name_ok(name, len);
+    let rows = clock::clock_ok(own, words);
+    let removed = tombstone_ok(words, tombstone, count);
+    ((1 <= own.number) & (own.number <= 16)) & (named & (rows & removed))
 }
 
-// Whether the store is undamaged, for a set whose name is the first len bytes.
-fn store_sound(name: &[u8], len: usize, words: &[u64; 32], store: &[u8], used: usize) -> bool
+// Whether the store is undamaged, for a set whose name is the first len bytes. The pass over the keys asks a copy of the clock on the stack.
+fn store_sound<'a, 'b>(
+    name: &'a [u8],
+    len: usize,
+    words: &'a [u64; 32],
+    store: &'b [u8],
+    used: usize,
+) -> bool
     requires { ⌜ (len ≤ length (now name)) × (nameOk (take len (now name)) ≡ true) ⌝ }
     ensures { λ r. ⌜ r ≡ storeOk (take len (now (name .entry))) (now (words .entry)) (now (store .entry)) used ⌝ }
 {
-    store::store_ok(&name[..len], words, store, used)
+    let here = *words;
+    store::store_ok(&name[..len], &here, store, used)
 }
 
-// Refusal 1: whether the state or its store is damaged.
-pub fn damaged(state: calls::State, store: &[u8]) -> bool
-    ensures { λ r. ⌜ r ≡ isDamaged state (now (store .entry)) ⌝ }
+// Refusal 1: whether the state of these parts or its store is damaged. The parts are lent, since a state by value would be copied.
+pub fn damaged<'a, 'b>(
+    own: dots::Actor,
+    name: &'a [u8; 16],
+    len: usize,
+    words: &'a [u64; 32],
+    tombstone: &'a [u8; 1152],
+    count: usize,
+    used: usize,
+    store: &'b [u8],
+) -> bool
+    ensures { λ r. ⌜ r ≡ isDamaged (stateFrom own (now (name .entry)) len (now (words .entry)) (now (tombstone .entry)) count used) (now (store .entry)) ⌝ }
 {
-    if !state_ok(state) {
+    if !state_ok(own, name, len, words, tombstone, count) {
         return true;
     }
-    let name = state.name.bytes;
-    let words = state.clock.words;
-    let len = state.name.len;
-    let used = state.used;
-    !store_sound(&name, len, &words, store, used)
+    !store_sound(name, len, words, store, used)
 }
 
 // ---- refusals 6, 8, 9 and 11
@@ -415,7 +433,7 @@ fn put_entry(
     label: &[u8],
     dot: dots::Dot,
 ) -> usize
-    requires { ⌜ (len ≤ length (now name)) × (nameOk (take len (now name)) ≡ true) × (labelOk (now label) ≡ true) × (used + (len + length (now label) + 15) ≤ length (now store)) ⌝ }
+    requires { ⌜ (len ≤ length (now name)) × (nameOk (take len (now name)) ≡ true) × (labelOk (now label) ≡ true) × (all (startsWith (prefix (take len (now name)))) (keysOf (length (take len (now name))) (take used (now store))) ≡ true) × (used + (len + length (now label) + 15) ≤ length (now store)) ⌝ }
     ensures { λ r. ⌜ (r ≡ used + (len + length (now (label .entry)) + 15)) × (now (store .exit) ≡ insertedEntry (take len (now (name .entry))) (now (store .entry)) used (entry (now (label .entry)) dot)) ⌝ }
 {
     store::insert_entry(store, used, &name[..len], label, dot)

@@ -55,11 +55,11 @@ module _ (words : List ℕ) (t : Bytes) (n : ℕ) (label : n ≡ zeroAt t) where
       rw (all, ne-eqb (length t) (zeroAt t + 11) (λ e. omega arith))
 
   -- the tests on the bytes themselves
-  module _ (fits : n + 11 ≤ length t) (event : ℕ) (counter : event ≡ numberAt 8 t (n + 3)) (seen : Bool) (known : seen ≡ sees words (dotOf (actorOf (getD t (n + 1) 0)) event)) where
-    abbrev tests : Bool
-    tests = leb 1 n && leb n 32 && (leb 1 (getD t (n + 1) 0) && leb (getD t (n + 1) 0) 16) && eqb (getD t (n + 2) 0) 0 && leb 1 event && seen
+  module _ (fits : n + 11 ≤ length t) (event : ℕ) (counter : event ≡ numberAt 8 t (n + 3)) where
+    abbrev shape : Bool
+    shape = leb 1 n && leb n 32 && (leb 1 (getD t (n + 1) 0) && leb (getD t (n + 1) 0) 16) && eqb (getD t (n + 2) 0) 0 && leb 1 event
 
-    tested : afterLength words t ≡ cond tests (n + 11) 0
+    tested : afterLength words t ≡ cond (shape && sees words (dotOf (actorOf (getD t (n + 1) 0)) event)) (n + 11) 0
     unfolding afterLength labelAfter
     tested =
         let u : Bytes = take (n + 11) t in
@@ -67,13 +67,17 @@ module _ (words : List ℕ) (t : Bytes) (n : ℕ) (label : n ≡ zeroAt t) where
         let whole : length u ≡ n + 11 = length-take-le (n + 11) t fits in
         let eight : n + 11 - (n + 3) ≡ 8 = omega arith in
         let number : numberAt 8 u (n + 3) ≡ event = rw (drop-take (n + 3) (n + 11) t, eight, take-take 8 8 (drop (n + 3) t) (omega arith)) (sym counter) in
-        rw (← label, zero-at, whole, eq-eqb (n + 11) (n + 11) refl, number, getD-take (n + 11) t (n + 1) 0 (omega arith), getD-take (n + 11) t (n + 2) 0 (omega arith), ← known)
+        rw (← label, zero-at, whole, eq-eqb (n + 11) (n + 11) refl, number, getD-take (n + 11) t (n + 1) 0 (omega arith), getD-take (n + 11) t (n + 2) 0 (omega arith))
 
-    pub after-passed : tests ≡ true → n + 11 ≡ afterLength words t
-    after-passed h = sym (tested ∙ rw h)
+    pub after-failed : not shape ≡ true → 0 ≡ afterLength words t
+    after-failed h = sym (tested ∙ rw (not-true shape h))
 
-    pub after-failed : tests ≡ false → 0 ≡ afterLength words t
-    after-failed h = sym (tested ∙ rw h)
+    module _ (h : not shape ≡ false) (seen : Bool) (known : seen ≡ sees words (dotOf (actorOf (getD t (n + 1) 0)) event)) where
+      pub after-passed : seen ≡ true → n + 11 ≡ afterLength words t
+      after-passed s = sym (tested ∙ rw (not-false shape h, ← known, s))
+
+      pub after-unseen : seen ≡ false → 0 ≡ afterLength words t
+      after-unseen s = sym (tested ∙ rw (not-false shape h, ← known, s))
 
 -- ---- the whole key
 

@@ -1,5 +1,5 @@
 -- Cut: how bytes are cut into keys. Walk: one turn of a walk over keys. Starts: what keys begin with. KeySays: what the key of an entry says.
--- RoundTrip: used bytes and entries. Front: the key at the front. OnePass: one pass decides the rules of used bytes.
+-- RoundTrip: used bytes and entries. Front: the key at the front. FirstNumbers: order by the first numbers in bytes. OnePass: one pass decides the rules of used bytes.
 -- Placed: the place of a key. Inserted: a key put at its place. Stretches: the keys of a label.
 pub mod Cut
 pub mod Walk
@@ -7,6 +7,7 @@ pub mod Starts
 pub mod KeySays
 pub mod RoundTrip
 pub mod Front
+pub mod FirstNumbers
 pub mod OnePass
 pub mod Placed
 pub mod Inserted

@@ -3,17 +3,15 @@ use mathlib.Core.Path.{_≡_, refl, sym, ap, ap₂, _∙_}
 use mathlib.Core.Logic.{_⊎_, inl, inr}
 use mathlib.Core.Bool.{Bool, true, false, not, _&&_, cond}
 use mathlib.Core.List.{List, [], _∷_, _++_, map}
-use Prim.Native.Nat.{ℕ, _+_, _-_, _≤_, _<_, _^_}
+use Prim.Native.Nat.{ℕ, _+_, _-_, _≤_, _<_}
 use native.Mathlib.Omega.{arith}
-use mir.Val.{Fits}
-use mir.Syntax.{w64}
 use lib.ListN.{length, take, drop, length-append, length-take, length-drop, drop-of-length-le}
 use lib.Seq.{drop-at, drop-drop}
 use borrow.Author.Tests.{not-true, not-false}
-use Rattle.wire.specs.Lists.{all, isLt, ascendsFrom, ascends, compareLists}
-use Rattle.wire.specs.Bytes.{Bytes, compareBytes}
+use Rattle.wire.specs.Lists.{all, isLt, ascendsFrom, ascends}
+use Rattle.wire.specs.Bytes.{Bytes, compareBytes, startsWith}
 use Rattle.wire.proofs.Tests.{both, decided}
-use Rattle.wire.proofs.ByteOrder.{compare-common}
+use Rattle.wire.proofs.ByteOrder.{compare-common, starts-itself}
 use Rattle.wire.proofs.Parts.{rest-part, drop-take}
 use Rattle.dots.specs.Names.{Name}
 use Rattle.dots.specs.Entries.{Entry}
@@ -23,7 +21,13 @@ use Rattle.store.specs.Cut.{keyLength, keysAfter, keysOf, keySays}
 use Rattle.store.specs.Valid.{keyOk, usedOk}
 use Rattle.store.specs.Front.{frontLength}
 use Rattle.store.proofs.Cut.{keyLength-pos, keyLength-le, keysOf-step}
-use Rattle.store.proofs.RoundTrip.{key-read}
+use Rattle.store.proofs.RoundTrip.{label-size, key-read}
+use Rattle.store.proofs.FirstNumbers.{none-before}
+
+-- the bounds of a key: it has 12 bytes at least from its label on, and ends within the keys
+pub record Bounds (name : Name) (keys : Bytes) (at len : ℕ) : Type 0 where
+  pub tail-within : at + (length name + 4) + 12 ≤ at + len
+  pub end-within : at + len ≤ length keys
 
 -- the rules of keys that come after one with the bytes b from its label on
 pub restOk : Name → List ℕ → Bytes → List Bytes → Bool
@@ -43,7 +47,7 @@ module _ (name : Name) (words : List ℕ) where
   -- a key of the set is the prefix and its tail
   record Parts (k : Bytes) : Type 0 where
     whole : prefix name ++ tail k ≡ k
-    more : 0 < length (tail k)
+    more : 12 ≤ length (tail k)
 
   parts : (k : Bytes) → keyOk name words k ≡ true → Parts k
   parts k ok =
@@ -51,7 +55,19 @@ module _ (name : Name) (words : List ℕ) where
       let e : Entry = keySays (length name) k in
       let split : prefix name ++ (e .label ++ suffix (e .dot)) ≡ k = sym (entry-key-parts name e) ∙ read .key in
       let rest : tail k ≡ e .label ++ suffix (e .dot) = ap tail (sym split) ∙ drop-at (prefix name) (e .label ++ suffix (e .dot)) (length name + 4) (length-prefix name) in
-      record { whole = rw rest split; more = rw (rest, length-append, length-suffix) (omega arith) }
+      record { whole = rw rest split; more = rw (rest, length-append, length-suffix) (omega (arith, label-size name e (read .valid) .0)) }
+
+  -- every key of an undamaged store begins with the prefix of the set
+  keys-begin : (ks : List Bytes) → all (keyOk name words) ks ≡ true → all (startsWith (prefix name)) ks ≡ true
+  unfolding all
+  keys-begin [] ok = refl
+  keys-begin (k ∷ ks) ok =
+      let here : startsWith (prefix name) k ≡ true = ap (startsWith (prefix name)) (sym (parts k (search both) .whole)) ∙ starts-itself (prefix name) (tail k) in
+      rw (here, keys-begin ks (search both))
+
+  pub used-begin : (bytes : Bytes) → usedOk name words bytes ≡ true → all (startsWith (prefix name)) (keysOf (length name) bytes) ≡ true
+  unfolding usedOk
+  used-begin bytes ok = keys-begin (keysOf (length name) bytes) (search both)
 
   tail-order : (k l : Bytes) → keyOk name words k ≡ true → keyOk name words l ≡ true → compareBytes k l ≡ compareBytes (tail k) (tail l)
   tail-order k l ok ok′ = ap₂ compareBytes (sym (parts k ok .whole)) (sym (parts l ok′ .whole)) ∙ compare-common (prefix name) (tail k) (tail l)
@@ -61,16 +77,10 @@ module _ (name : Name) (words : List ℕ) where
   tails-ascend k [] ok rest = refl
   tails-ascend k (l ∷ ks) ok rest = rw (tail-order k l ok (search both), tails-ascend l ks (search both) (search both))
 
-  -- no bytes come before all that are some
-  none-before : (s : Bytes) → 0 < length s → isLt (compareBytes [] s) ≡ true
-  unfolding compareLists
-  none-before [] h = absurd (omega arith)
-  none-before (b ∷ s) h = refl
-
   all-after-none : (ks : List Bytes) → all (keyOk name words) ks ≡ true → ascends compareBytes ks ≡ ascendsFrom compareBytes [] (map tail ks)
   unfolding ascends ascendsFrom all
   all-after-none [] ok = refl
-  all-after-none (k ∷ ks) ok = rw (none-before (tail k) (parts k (search both) .more)) (tails-ascend k ks (search both) (search both))
+  all-after-none (k ∷ ks) ok = rw (none-before (tail k) (omega (arith, parts k (search both) .more))) (tails-ascend k ks (search both) (search both))
 
   -- the first key, and what must hold of the others after it
   rest-cons : (b k : Bytes) (ks : List Bytes) → restOk name words b (k ∷ ks) ≡ (keyOk name words k && (isLt (compareBytes b (tail k)) && restOk name words (tail k) ks))
@@ -96,71 +106,63 @@ module _ (name : Name) (words : List ℕ) where
         by-keys (inl ok) = ap (λ (b : Bool). all (keyOk name words) ks && b) (all-after-none ks ok)
         by-keys (inr f) = rw f
 
+    -- its length, where it is read: 0 if it breaks the rules
+    len-is : (at len : ℕ) → len ≡ frontLength name words (take (length keys - at) (drop at keys)) → len ≡ cond (keyOk name words (key at)) (size at) 0
+    unfolding frontLength key size
+    len-is at len read = rw rest-part at read
+
+    -- a key that keeps the rules
+    module _ (at len : ℕ) (read : len ≡ frontLength name words (take (length keys - at) (drop at keys))) (some : len ≡ 0 → ⊥) where
+      passes : keyOk name words (key at) ≡ true
+      passes = by-test (keyOk name words (key at)) (len-is at len read)
+        where
+          by-test : (b : Bool) → len ≡ cond b (size at) 0 → b ≡ true
+          by-test true f = refl
+          by-test false f = absurd (some f)
+
+      is-size : len ≡ size at
+      is-size = len-is at len read ∙ rw passes
+
+      pub bounds : at < length keys → Bounds name keys at len
+      unfolding key size
+      bounds h =
+          let front : length (key at) ≤ len = rw (length-take, is-size) (omega arith) in
+          record {
+            tail-within = omega (arith, parts (key at) passes .more, length-drop (length name + 4) (key at));
+            end-within = omega (arith, is-size, keyLength-le (length name) (drop at keys), length-drop at keys);
+          }
+
+      -- the key from its label on, as it is lent
+      tail-is : take (at + len - (at + (length name + 4))) (drop (at + (length name + 4)) keys) ≡ tail (key at)
+      unfolding key
+      tail-is =
+          let left : at + len - (at + (length name + 4)) ≡ size at - (length name + 4) = omega (arith, is-size) in
+          rw (left, drop-take (length name + 4) (size at) (drop at keys), drop-drop (length name + 4) at keys)
+
     module _ (label at : ℕ) (inv : usedOk name words keys ≡ restOk name words (take (at - label) (drop label keys)) (keysOf (length name) (drop at keys))) where
       pub ended : length keys ≤ at → true ≡ usedOk name words keys
       unfolding restOk all ascendsFrom keysAfter
       ended h = sym (inv ∙ rw (drop-of-length-le keys h))
 
       module _ (more : at < length keys) (len : ℕ) (read : len ≡ frontLength name words (take (length keys - at) (drop at keys))) where
-        len-is : len ≡ cond (keyOk name words (key at)) (size at) 0
-        unfolding frontLength key size
-        len-is = rw rest-part at read
-
         cut : usedOk name words keys ≡ (keyOk name words (key at) && (isLt (compareBytes (take (at - label) (drop label keys)) (tail (key at))) && restOk name words (tail (key at)) (keysOf (length name) (drop (at + size at) keys))))
         unfolding key size
         cut = inv ∙ rw (keysOf-step (length name) keys at more) (rest-cons (take (at - label) (drop label keys)) (key at) (keysOf (length name) (drop (at + size at) keys)))
 
         pub no-key : len ≡ 0 → false ≡ usedOk name words keys
         unfolding size
-        no-key e = sym (cut ∙ by-test (keyOk name words (key at)) len-is)
+        no-key e = sym (cut ∙ by-test (keyOk name words (key at)) (len-is at len read))
           where
             by-test : (b : Bool) → len ≡ cond b (size at) 0 → (b && (isLt (compareBytes (take (at - label) (drop label keys)) (tail (key at))) && restOk name words (tail (key at)) (keysOf (length name) (drop (at + size at) keys)))) ≡ false
             by-test true f = absurd (omega (arith, keyLength-pos (length name) (drop at keys) (rw length-drop (omega arith))))
             by-test false f = refl
 
-        module _ (some : len ≡ 0 → ⊥) where
-          passes : keyOk name words (key at) ≡ true
-          passes = by-test (keyOk name words (key at)) len-is
-            where
-              by-test : (b : Bool) → len ≡ cond b (size at) 0 → b ≡ true
-              by-test true f = refl
-              by-test false f = absurd (some f)
+        module _ (some : len ≡ 0 → ⊥) (o : Bool) (ordered : o ≡ isLt (compareBytes (take (at - label) (drop label keys)) (take (at + len - (at + (length name + 4))) (drop (at + (length name + 4)) keys)))) where
+          is-ordered : o ≡ isLt (compareBytes (take (at - label) (drop label keys)) (tail (key at)))
+          is-ordered = rw (tail-is at len read some) at ordered
 
-          is-size : len ≡ size at
-          is-size = len-is ∙ rw passes
+          pub out-of-order : not o ≡ true → false ≡ usedOk name words keys
+          out-of-order d = sym (cut ∙ rw (passes at len read some, ← is-ordered, not-true o d))
 
-          pub end-within : at + len ≤ length keys
-          unfolding size
-          end-within = omega (arith, is-size, keyLength-le (length name) (drop at keys), length-drop at keys)
-
-          pub tail-within : at + (length name + 4) ≤ at + len
-          unfolding key
-          tail-within =
-              let front : length (key at) ≤ len = rw (length-take, is-size) (omega arith) in
-              omega (arith, parts (key at) passes .more, length-drop (length name + 4) (key at))
-
-          pub end-fits : length keys < 2 ^ 64 → Fits w64 (at + len)
-          end-fits h = omega (arith, end-within)
-
-          pub tail-fits : length keys < 2 ^ 64 → Fits w64 (at + (length name + 4))
-          tail-fits h = omega (arith, end-within, tail-within)
-
-          pub falls : length keys - (at + len) < length keys - at
-          falls = omega (arith, end-within, some)
-
-          -- the key from its label on, as it is lent
-          tail-is : take (at + len - (at + (length name + 4))) (drop (at + (length name + 4)) keys) ≡ tail (key at)
-          unfolding key
-          tail-is =
-              let left : at + len - (at + (length name + 4)) ≡ size at - (length name + 4) = omega (arith, is-size) in
-              rw (left, drop-take (length name + 4) (size at) (drop at keys), drop-drop (length name + 4) at keys)
-
-          module _ (o : Bool) (ordered : o ≡ isLt (compareBytes (take (at - label) (drop label keys)) (take (at + len - (at + (length name + 4))) (drop (at + (length name + 4)) keys)))) where
-            is-ordered : o ≡ isLt (compareBytes (take (at - label) (drop label keys)) (tail (key at)))
-            is-ordered = rw tail-is at ordered
-
-            pub out-of-order : not o ≡ true → false ≡ usedOk name words keys
-            out-of-order d = sym (cut ∙ rw (passes, ← is-ordered, not-true o d))
-
-            pub passed : not o ≡ false → usedOk name words keys ≡ restOk name words (take (at + len - (at + (length name + 4))) (drop (at + (length name + 4)) keys)) (keysOf (length name) (drop (at + len) keys))
-            passed d = cut ∙ rw (passes, ← is-ordered, not-false o d, tail-is, is-size)
+          pub passed : not o ≡ false → usedOk name words keys ≡ restOk name words (take (at + len - (at + (length name + 4))) (drop (at + (length name + 4)) keys)) (keysOf (length name) (drop (at + len) keys))
+          passed d = cut ∙ rw (passes at len read some, ← is-ordered, not-false o d, tail-is at len read some, is-size at len read some)

@@ -27,7 +27,7 @@ use Rattle.store.proofs.KeySays.{entry-said, entries-said}
 -- ---- one key
 
 module _ (name : Name) (e : Entry) (ok : entryOk e ≡ true) where
-  label-size : (1 ≤ length (e .label)) × (length (e .label) ≤ labelMost)
+  pub label-size : (1 ≤ length (e .label)) × (length (e .label) ≤ labelMost)
   unfolding entryOk textOk
   label-size = (leb-true 1 (length (e .label)) (search both), leb-true (length (e .label)) labelMost (search both))
 

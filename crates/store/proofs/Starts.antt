@@ -21,6 +21,10 @@ pub label-most : (label : Label) → labelOk label ≡ true → length label ≤
 unfolding textOk
 label-most label ok = leb-true (length label) labelMost (search both)
 
+pub label-some : (label : Label) → labelOk label ≡ true → 1 ≤ length label
+unfolding textOk
+label-some label ok = leb-true 1 (length label) (search both)
+
 pub length-label-start : (name : Name) (label : Label) → length (labelStart name label) ≡ length name + length label + 5
 unfolding labelStart
 length-label-start name label = rw (length-append, length-append, length-prefix) (omega arith)

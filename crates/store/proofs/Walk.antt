@@ -11,6 +11,8 @@ use mir.Val.{Fits}
 use mir.Syntax.{w64}
 use Rattle.store.specs.Cut.{keyLength, keysAfter, keysOf}
 use Rattle.store.specs.Place.{lengthWhile}
+use Rattle.wire.specs.Lists.{all}
+use Rattle.wire.proofs.Tests.{both-left, both-right}
 use Rattle.wire.proofs.Parts.{rest-part, size-part}
 use Rattle.store.proofs.Cut.{keyLength-pos, keyLength-le, keysOf-step}
 
@@ -36,6 +38,19 @@ module _ (n : ℕ) (keys : List ℕ) (at len : ℕ) (more : at < length keys) (r
   -- the keys from `at` on
   pub first-key : keysOf n (drop at keys) ≡ take len (drop at keys) ∷ keysOf n (drop (at + len) keys)
   first-key = rw is-length (keysOf-step n keys at more)
+
+  -- a test that holds of every key holds of this one and of those after it
+  module _ (test : List ℕ → Bool) (every : all test (keysOf n (drop at keys)) ≡ true) where
+    cut : all test (take len (drop at keys) ∷ keysOf n (drop (at + len) keys)) ≡ true
+    cut = rw first-key at every
+
+    pub every-here : test (take (at + len - at) (drop at keys)) ≡ true
+    unfolding all
+    every-here = rw size-part (both-left (test (take len (drop at keys))) (all test (keysOf n (drop (at + len) keys))) cut)
+
+    pub every-later : all test (keysOf n (drop (at + len) keys)) ≡ true
+    unfolding all
+    every-later = both-right (test (take len (drop at keys))) (all test (keysOf n (drop (at + len) keys))) cut
 
   -- a walk that goes on while a test holds
   module _ (test : List ℕ → Bool) (r : Bool) (tested : r ≡ test (take (at + len - at) (drop at keys)))

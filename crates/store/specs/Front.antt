@@ -1,9 +1,10 @@
 -- The key at the front of some bytes, as the pass over a store reads it.
-use Prim.Native.Nat.{ℕ, _+_}
+use Prim.Native.Nat.{ℕ, _+_, _-_, _≤_, _<_}
+use mathlib.Core.Path.{_≡_}
 use mathlib.Core.Bool.{cond, _&&_}
 use mathlib.Core.List.{List}
-use lib.ListN.{length, take}
-use Rattle.wire.specs.Bytes.{Bytes, zeroAt}
+use lib.ListN.{length, take, drop}
+use Rattle.wire.specs.Bytes.{Bytes, zeroAt, numberAt}
 use Rattle.dots.specs.Names.{Name}
 use Rattle.keys.specs.Tests.{labelAfter, entryAfter}
 use Rattle.clock.specs.Clock.{sees}
@@ -19,3 +20,11 @@ unfoldable pub afterLength : List ℕ → Bytes → ℕ
 afterLength words t =
     let len = zeroAt t + 11 in
     cond (labelAfter (take len t) && sees words (entryAfter (take len t) .dot)) len 0
+
+-- the numbers in the first 8 bytes and in the next 4 of the bytes from a place to another, which are none or 12 at least
+pub record FirstNumbers (bytes : Bytes) (from to word half : ℕ) : Type 0 where
+  pub order : from ≤ to
+  pub within : to ≤ length bytes
+  pub long : from < to → from + 12 ≤ to
+  pub first : word ≡ numberAt 8 (take (to - from) (drop from bytes)) 0
+  pub second : half ≡ numberAt 4 (take (to - from) (drop from bytes)) 8

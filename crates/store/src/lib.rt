@@ -1,16 +1,17 @@
 // The label store in a lent buffer: label keys end to end, read, compared and moved as raw bytes.
 ghost use mathlib.Core.Path.{_≡_};
-ghost use mathlib.Core.Bool.{true};
-ghost use Prim.Native.Nat.{_+_, _≤_};
+ghost use mathlib.Core.Bool.{true, cond};
+ghost use Prim.Native.Nat.{_+_, _-_, _≤_, _<_};
 ghost use lib.ListN.{length, take, drop};
-ghost use Rattle.wire.specs.Bytes.{startsWith, putAt, insertedAt, IsPart};
+ghost use Rattle.wire.specs.Lists.{all, isLt};
+ghost use Rattle.wire.specs.Bytes.{compareBytes, numberAt, startsWith, putAt, insertedAt, IsPart};
 ghost use Rattle.dots.specs.Names.{nameOk, labelOk};
 ghost use Rattle.dots.specs.Entries.{entry};
 ghost use Rattle.keys.specs.Entry.{prefix, entryKey};
 ghost use Rattle.store.specs.Cut.{keyLength, keysOf, keyDot};
 ghost use Rattle.store.specs.Valid.{usedOk, storeOk};
 ghost use Rattle.store.specs.Place.{lengthWhile, placeIn, labelStart, stretchStart, stretchEnd, insertedEntry};
-ghost use Rattle.store.specs.Front.{afterLength, frontLength};
+ghost use Rattle.store.specs.Front.{afterLength, frontLength, FirstNumbers};
 
 // ---- validity, place, insertion, stretch
 
@@ -37,17 +38,15 @@ fn after_length(words: &[u64; 32], t: &[u8]) -> usize
     let number = t[n + 1];
     let ended = t[n + 2] == 0;
     let event = wire::number_at(t, n + 3);
+    let shaped = ((1 <= n) & (n <= 32)) & ((1 <= number) & (number <= 16)) & ended & (1 <= event);
+    if !shaped {
+        return 0;
+    }
     let dot = dots::Dot {
         actor: dots::Actor { number: number },
         counter: dots::Counter { number: event },
     };
-    let seen = clock::sees(words, dot);
-    let ok = ((1 <= n) & (n <= 32))
-        & ((1 <= number) & (number <= 16))
-        & ended
-        & (1 <= event)
-        & seen;
-    if ok { n + 11 } else { 0 }
+    if clock::sees(words, dot) { n + 11 } else { 0 }
 }
 
 // How long the key at the front is, if it is a label key of the set whose dot is seen; else 0. `start` is what the set's keys begin with.
@@ -66,11 +65,43 @@ fn front_length(name: &[u8], start: &[u8], words: &[u64; 32], s: &[u8]) -> usize
     at + len
 }
 
+// One of two numbers.
+fn pick(first: bool, a: u64, b: u64) -> u64
+    ensures { λ r. ⌜ r ≡ cond first a b ⌝ }
+{
+    if first { a } else { b }
+}
+
+// Whether the bytes from `label` to `at` come before those from `next` to `end`. The numbers in the first 8 bytes and in the next 4 of both decide unless they are equal.
+fn ascends(
+    keys: &[u8],
+    label: usize,
+    at: usize,
+    next: usize,
+    end: usize,
+    word: u64,
+    half: u64,
+    next_word: u64,
+    next_half: u64,
+) -> bool
+    requires { ⌜ FirstNumbers (now keys) label at word half × (FirstNumbers (now keys) next end «next_word» «next_half» × (next < end)) ⌝ }
+    ensures { λ r. ⌜ r ≡ isLt (compareBytes (take (at - label) (drop label (now (keys .entry)))) (take (end - next) (drop next (now (keys .entry))))) ⌝ }
+{
+    let low = pick(word == next_word, half, word);
+    let high = pick(word == next_word, next_half, next_word);
+    if low != high {
+        return low < high;
+    }
+    search::lower(&keys[label..at], &keys[next..end])
+}
+
 // Whether bytes are label keys of the set end to end, ascending, each dot seen. The keys begin alike, so that their order is that of what follows `start`.
 fn keys_ok(name: &[u8], start: &[u8], words: &[u64; 32], keys: &[u8]) -> bool
     requires { ⌜ (nameOk (now name) ≡ true) × (now start ≡ prefix (now name)) ⌝ }
     ensures { λ r. ⌜ r ≡ usedOk (now (name .entry)) (now (words .entry)) (now (keys .entry)) ⌝ }
 {
+    let mut word = 0;
+    let mut half = 0;
     let mut label = 0;
     let mut at = 0;
     while at < keys.len() {
@@ -80,9 +111,13 @@ fn keys_ok(name: &[u8], start: &[u8], words: &[u64; 32], keys: &[u8]) -> bool
         }
         let next = at + (name.len() + 4);
         let end = at + len;
-        if !search::lower(&keys[label..at], &keys[next..end]) {
+        let next_word = wire::number_at(keys, next);
+        let next_half = wire::half_at(keys, next + 8);
+        if !ascends(keys, label, at, next, end, word, half, next_word, next_half) {
             return false;
         }
+        word = next_word;
+        half = next_half;
         label = next;
         at = end;
     }
@@ -137,6 +172,39 @@ pub fn place(n: usize, keys: &[u8], key: &[u8]) -> usize
     at
 }
 
+// Whether a stored key comes before a key that begins with the same bytes up to `from`; wanted is the number in the key's next 8 bytes.
+fn comes_before(stored: &[u8], key: &[u8], from: usize, wanted: u64) -> bool
+    requires { ⌜ (take from (now stored) ≡ take from (now key)) × (from + 8 ≤ length (now key)) × (wanted ≡ numberAt 8 (now key) from) ⌝ }
+    ensures { λ r. ⌜ r ≡ isLt (compareBytes (now (stored .entry)) (now (key .entry))) ⌝ }
+{
+    if stored.len() < from + 8 {
+        return search::lower(stored, key);
+    }
+    let word = wire::number_at(stored, from);
+    if word != wanted {
+        return word < wanted;
+    }
+    search::lower(stored, key)
+}
+
+// Where a key goes in keys end to end that all begin as it does up to the label: they are compared from there on.
+fn place_after(n: usize, keys: &[u8], key: &[u8]) -> usize
+    requires { ⌜ (n ≤ 16) × (n + 12 ≤ length (now key)) × (all (startsWith (take (n + 4) (now key))) (keysOf n (now keys)) ≡ true) ⌝ }
+    ensures { λ r. ⌜ (r ≡ placeIn (now (key .entry)) (keysOf n (now (keys .entry)))) × (r ≤ length (now (keys .entry))) ⌝ }
+{
+    let from = n + 4;
+    let wanted = wire::number_at(key, from);
+    let mut at = 0;
+    while at < keys.len() {
+        let end = at + key_length(n, &keys[at..]);
+        if !comes_before(&keys[at..end], key, from, wanted) {
+            return at;
+        }
+        at = end;
+    }
+    at
+}
+
 // Puts what the keys of a label begin with at the front of out. Returns its length.
 fn put_label_start(out: &mut [u8], name: &[u8], label: &[u8]) -> usize
     requires { ⌜ length (now name) + length (now label) + 5 ≤ length (now out) ⌝ }
@@ -162,10 +230,10 @@ fn put_key(out: &mut [u8], name: &[u8], label: &[u8], dot: dots::Dot) -> usize
 
 // Puts a key in its place among the first `used` bytes; those from there on move up.
 fn insert_key(store: &mut [u8], used: usize, n: usize, key: &[u8])
-    requires { ⌜ (n ≤ 16) × (used + length (now key) ≤ length (now store)) ⌝ }
+    requires { ⌜ (n ≤ 16) × (n + 12 ≤ length (now key)) × (all (startsWith (take (n + 4) (now key))) (keysOf n (take used (now store))) ≡ true) × (used + length (now key) ≤ length (now store)) ⌝ }
     ensures { λ _. ⌜ now (store .exit) ≡ insertedAt (now (store .entry)) used (placeIn (now (key .entry)) (keysOf n (take used (now (store .entry))))) (now (key .entry)) ⌝ }
 {
-    let at = place(n, &store[..used], key);
+    let at = place_after(n, &store[..used], key);
     moves::insert_piece(store, used, at, key);
 }
 
@@ -177,7 +245,7 @@ pub fn insert_entry(
     label: &[u8],
     dot: dots::Dot,
 ) -> usize
-    requires { ⌜ (nameOk (now name) ≡ true) × (labelOk (now label) ≡ true) × (used + (length (now name) + length (now label) + 15) ≤ length (now store)) ⌝ }
+    requires { ⌜ (nameOk (now name) ≡ true) × (labelOk (now label) ≡ true) × (all (startsWith (prefix (now name))) (keysOf (length (now name)) (take used (now store))) ≡ true) × (used + (length (now name) + length (now label) + 15) ≤ length (now store)) ⌝ }
     ensures { λ r. ⌜ (r ≡ used + (length (now (name .entry)) + length (now (label .entry)) + 15)) × (now (store .exit) ≡ insertedEntry (now (name .entry)) (now (store .entry)) used (entry (now (label .entry)) dot)) ⌝ }
 {
     let mut key = [0; 63];

@@ -1,16 +1,14 @@
 -- Big-endian numbers: the laws of `bigEndian` and `fromBigEndian`. Assumes nothing.
-use mathlib.Core.Path.{_≡_, refl, sym, ap, _∙_}
+use mathlib.Core.Path.{_≡_, refl, ap}
 use mathlib.Core.List.{List, [], _∷_, _++_}
 use Prim.Native.Nat.{ℕ, zero, suc, _+_, _*_, _%_, _^_, _≤_, _<_}
 use native.Mathlib.Nat.{pow-suc, pow-succ', mul-assoc, add-mul, add-assoc, le-trans, pow-le-pow-right, one-le-pow, div-add-mod', mod-lt}
 use native.Mathlib.Numerals.{add-one}
 use native.Mathlib.Omega.{arith}
-use lib.ListN.{length, take, drop, length-append, length-drop}
-use lib.Seq.{length-take-le, take-add, drop-drop}
-use lib.Pow.{pow-add}
+use lib.ListN.{length, length-append}
 use lib.Arith.{digits-lt, digits-div, digits-mod}
 use lib.Dec.{lit<}
-use Rattle.wire.specs.Bytes.{AreBytes, bigEndian, fromBigEndian, numberAt}
+use Rattle.wire.specs.Bytes.{AreBytes, bigEndian, fromBigEndian}
 
 pub pow-pos-256 : (k : ℕ) → 0 < 256 ^ k
 pow-pos-256 k = one-le-pow k 256 (lit< tt)
@@ -37,23 +35,10 @@ pub room-for-one : {n i : ℕ} → n < 256 ^ i → i < 8 → n * 256 + 255 < 2 ^
 room-for-one {n} {i} h k =
     le-trans (digits-lt h (lit< tt)) (rw (← pow-suc) (pow-le-pow-right (lit< tt) k))
 
--- bytes, and more bytes after them
-pub from-append : (xs ys : List ℕ) → fromBigEndian (xs ++ ys) ≡ fromBigEndian xs * 256 ^ length ys + fromBigEndian ys
-unfolding fromBigEndian
-from-append [] ys = omega arith
-from-append (x ∷ xs) ys = rw (length-append xs ys, from-append xs ys, pow-add 256 (length xs) (length ys), add-mul, add-assoc, mul-assoc)
-
 -- four bytes, as the code reads them
 pub from-four : (a b c d : ℕ) → ((a * 256 + b) * 256 + c) * 256 + d ≡ fromBigEndian (a ∷ b ∷ c ∷ d ∷ [])
 unfolding fromBigEndian
 from-four a b c d = omega arith
-
--- eight bytes are two halves
-pub from-halves : (s : List ℕ) (at : ℕ) → at + 8 ≤ length s → numberAt 4 s at * 4294967296 + numberAt 4 s (at + 4) ≡ numberAt 8 s at
-from-halves s at h =
-    let low : length (take 4 (drop (at + 4) s)) ≡ 4 = length-take-le 4 (drop (at + 4) s) (rw length-drop (omega arith)) in
-    let split : take 8 (drop at s) ≡ take 4 (drop at s) ++ take 4 (drop (at + 4) s) = take-add 4 4 (drop at s) ∙ rw drop-drop in
-    sym (ap fromBigEndian split ∙ from-append (take 4 (drop at s)) (take 4 (drop (at + 4) s)) ∙ rw low)
 
 pub length-bigEndian : (k n : ℕ) → length (bigEndian k n) ≡ k
 unfolding bigEndian

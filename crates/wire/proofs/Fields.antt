@@ -8,7 +8,7 @@ use native.Mathlib.Decide.{decLt}
 use native.Mathlib.Omega.{arith}
 use lib.ListN.{length, take, drop, getD, length-drop, take-append-drop, length-take, length-append, List·getD-append, List·getD-eq-default}
 use lib.Seq.{take-at, drop-at, drop-drop, getD-drop, getD-take, getD-append-add, length-take-le}
-use Rattle.wire.specs.Bytes.{AreBytes, bigEndian, numberAt, putAt}
+use Rattle.wire.specs.Bytes.{AreBytes, bigEndian, fromBigEndian, numberAt, putAt}
 use Rattle.wire.proofs.Parts.{drop-step}
 use Rattle.wire.proofs.BigEndian.{length-bigEndian, from-bigEndian, bigEndian-from}
 
@@ -53,12 +53,13 @@ bytes-left a b small i = elim (decLt i (length a)) [
 pub bytes-right : (a b : List ℕ) → AreBytes (a ++ b) → AreBytes b
 bytes-right a b small i = rw getD-append-add at (small (length a + i))
 
+-- a part read as a number and written again, in either byte order
+module _ (write : ℕ → ℕ → List ℕ) (read : List ℕ → ℕ) (back : (bs : List ℕ) → AreBytes bs → write (length bs) (read bs) ≡ bs) where
+  pub part-written : (s : List ℕ) → AreBytes s → (k i : ℕ) → i + k ≤ length s → write k (read (take k (drop i s))) ≡ take k (drop i s)
+  part-written s small k i h = rw (part-length s i k h) at (back (take k (drop i s)) (bytes-take (drop i s) k (bytes-drop s i small)))
+
 pub number-back : (s : List ℕ) → AreBytes s → (k i : ℕ) → i + k ≤ length s → bigEndian k (numberAt k s i) ++ drop (i + k) s ≡ drop i s
-number-back s small k i h =
-    let size : length (take k (drop i s)) ≡ k = part-length s i k h in
-    let same : bigEndian k (numberAt k s i) ≡ take k (drop i s) =
-    ap (λ (n : ℕ). bigEndian n (numberAt k s i)) (sym size) ∙ bigEndian-from (take k (drop i s)) (bytes-take (drop i s) k (bytes-drop s i small)) in
-    rw same (part-back s i k)
+number-back s small k i h = rw (part-written bigEndian fromBigEndian bigEndian-from s small k i h) (part-back s i k)
 
 -- ---- bytes put into a buffer one after the other
 

@@ -6,7 +6,7 @@ use native.Mathlib.Nat.{sub-zero, zero-sub, suc-sub-suc}
 use native.Mathlib.Numerals.{add-one}
 use native.Mathlib.Omega.{arith}
 use lib.ListN.{length, take, drop, getD, length-drop, List·getD-eq-default}
-use lib.Seq.{take-suc, drop-cons, take-all, take-nil}
+use lib.Seq.{take-suc, drop-cons, take-all, take-nil, take-add, drop-drop}
 
 -- one element more of a list from its front, and one less of its rest
 pub take-step : (s : List ℕ) (i : ℕ) → i < length s → take (i + 1) s ≡ take i s ++ (getD s i 0 ∷ [])
@@ -41,3 +41,11 @@ part-step s a k h = rw (drop-step s a h)
 -- the element of a part at an offset, and the part after it
 pub part-offset : (s : List ℕ) (a j k : ℕ) → a + j < length s → take (suc k) (drop (a + j) s) ≡ getD s (a + j) 0 ∷ take k (drop (a + suc j) s)
 part-offset s a j k h = let next : a + j + 1 ≡ a + suc j = omega arith in part-step s (a + j) k h ∙ rw next
+
+-- a part of four elements
+pub part-four : (s : List ℕ) (a : ℕ) → a + 4 ≤ length s → take 4 (drop a s) ≡ getD s a 0 ∷ getD s (a + 1) 0 ∷ getD s (a + 2) 0 ∷ getD s (a + 3) 0 ∷ []
+part-four s a h = rw (part-step s a 3 (omega arith), part-offset s a 1 2 (omega arith), part-offset s a 2 1 (omega arith), part-offset s a 3 0 (omega arith))
+
+-- a part is two, one after the other
+pub part-add : (s : List ℕ) (a j k : ℕ) → take (j + k) (drop a s) ≡ take j (drop a s) ++ take k (drop (a + j) s)
+part-add s a j k = take-add j k (drop a s) ∙ rw drop-drop

@@ -1,16 +1,14 @@
--- Bytes read k at a time: how the numbers that they make, highest byte first, decide their order and a common start. Assumes nothing.
+-- Bytes read k at a time: how the numbers that they make decide their order, highest byte first, and their equality, in either byte order. Assumes nothing.
 use mathlib.Core.Path.{_≡_, sym, ap, ap₂, _∙_}
-use mathlib.Core.Bool.{true}
 use mathlib.Core.List.{List}
 use Prim.Native.Nat.{ℕ, _+_, _^_, _≤_, _<_, compare}
-use native.Mathlib.Omega.{arith}
-use lib.ListN.{length, take, drop, length-drop}
-use lib.Seq.{take-append-le}
+use lib.ListN.{length, take, drop}
 use Rattle.wire.specs.Lists.{then}
-use Rattle.wire.specs.Bytes.{AreBytes, compareBytes, bigEndian, fromBigEndian, numberAt, startsWith}
+use Rattle.wire.specs.Bytes.{AreBytes, compareBytes, bigEndian, numberAt, littleEndian, fromLittleEndian, lowNumberAt}
 use Rattle.wire.proofs.BigEndian.{length-bigEndian, from-lt}
-use Rattle.wire.proofs.Fields.{bytes-drop, bytes-take, number-back, part-length}
-use Rattle.wire.proofs.ByteOrder.{compare-append, compare-bigEndian, starts-common, starts-split}
+use Rattle.wire.proofs.LittleEndian.{littleEndian-from}
+use Rattle.wire.proofs.Fields.{bytes-drop, bytes-take, number-back, part-length, part-written}
+use Rattle.wire.proofs.ByteOrder.{compare-append, compare-bigEndian}
 
 number-below : (s : List ℕ) → AreBytes s → (k i : ℕ) → i + k ≤ length s → numberAt k s i < 256 ^ k
 number-below s small k i h = rw (part-length s i k h) at (from-lt (take k (drop i s)) (bytes-take (drop i s) k (bytes-drop s i small)))
@@ -25,14 +23,12 @@ compare-words a b p q k i h l =
     ∙ compare-append (bigEndian k x) (bigEndian k y) (drop (i + k) a) (drop (i + k) b) (length-bigEndian k x ∙ sym (length-bigEndian k y))
     ∙ rw (compare-bigEndian k x y (number-below a p k i h) (number-below b q k i l))
 
--- equal numbers are a common start
-pub starts-words : (a s : List ℕ) → AreBytes a → AreBytes s → (k i : ℕ) → i + k ≤ length a → i + k ≤ length s → numberAt k s i ≡ numberAt k a i
-    → startsWith (drop i a) (drop i s) ≡ startsWith (drop (i + k) a) (drop (i + k) s)
-starts-words a s p q k i h l e =
-    ap₂ startsWith (sym (number-back a p k i h)) (sym (number-back s q k i l) ∙ rw e) ∙ starts-common (bigEndian k (numberAt k a i)) (drop (i + k) a) (drop (i + k) s)
+-- parts that make equal numbers are equal, in either byte order
+module _ (write : ℕ → ℕ → List ℕ) (read : List ℕ → ℕ) (back : (bs : List ℕ) → AreBytes bs → write (length bs) (read bs) ≡ bs) where
+  pub same-part : (a s : List ℕ) → AreBytes a → AreBytes s → (k i : ℕ) → i + k ≤ length a → i + k ≤ length s → read (take k (drop i s)) ≡ read (take k (drop i a))
+      → take k (drop i s) ≡ take k (drop i a)
+  same-part a s p q k i h l e = sym (part-written write read back s q k i l) ∙ ap (write k) e ∙ part-written write read back a p k i h
 
--- bytes that begin with others begin with their number
-pub starts-number : (a s : List ℕ) (k i : ℕ) → i + k ≤ length a → startsWith (drop i a) (drop i s) ≡ true → numberAt k s i ≡ numberAt k a i
-starts-number a s k i h t =
-    let fits : k ≤ length (drop i a) = rw length-drop (omega arith) in
-    ap (λ (l : List ℕ). fromBigEndian (take k l)) (sym (starts-split (drop i a) (drop i s) t)) ∙ rw (take-append-le k (drop i a) _ fits)
+pub same-low-part : (a s : List ℕ) → AreBytes a → AreBytes s → (k i : ℕ) → i + k ≤ length a → i + k ≤ length s → lowNumberAt k s i ≡ lowNumberAt k a i
+    → take k (drop i s) ≡ take k (drop i a)
+same-low-part = same-part littleEndian fromLittleEndian littleEndian-from

@@ -55,6 +55,20 @@ fromBigEndian (b ∷ bs) = b * 256 ^ length bs + fromBigEndian bs
 abbrev pub numberAt : ℕ → Bytes → ℕ → ℕ
 numberAt k s at = fromBigEndian (partAt s at k)
 
+-- n in k bytes, lowest first
+unfoldable pub littleEndian : ℕ → ℕ → Bytes
+littleEndian zero n = []
+littleEndian (suc k) n = n % 256 ∷ littleEndian k (n / 256)
+
+-- the number that bytes are, lowest first
+unfoldable pub fromLittleEndian : Bytes → ℕ
+fromLittleEndian [] = 0
+fromLittleEndian (b ∷ bs) = fromLittleEndian bs * 256 + b
+
+-- the number in the k bytes from a place on, lowest first
+abbrev pub lowNumberAt : ℕ → Bytes → ℕ → ℕ
+lowNumberAt k s at = fromLittleEndian (partAt s at k)
+
 -- the index of the first 0, or the length
 unfoldable pub zeroAt : Bytes → ℕ
 zeroAt [] = 0

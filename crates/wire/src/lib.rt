@@ -2,7 +2,7 @@
 ghost use mathlib.Core.Path.{_≡_};
 ghost use Prim.Native.Nat.{_+_, _^_, _≤_, _<_};
 ghost use lib.ListN.{length};
-ghost use Rattle.wire.specs.Bytes.{byteAt, partAt, numberAt, bigEndian};
+ghost use Rattle.wire.specs.Bytes.{byteAt, partAt, numberAt, bigEndian, fromBigEndian, lowNumberAt, littleEndian};
 
 // A stretch of bytes: its first place and its length.
 pub struct Span {
@@ -51,14 +51,46 @@ pub fn part<'a>(s: &'a [u8], at: usize, len: usize) -> &'a [u8]
     &s[at..end]
 }
 
-// ---- numbers, highest byte first
-
 // A byte as a wide number, which is still below 256.
 fn wide(b: u8) -> u64
     ensures { λ r. ⌜ (r ≡ b) × (r < 256) ⌝ }
 {
     b as u64
 }
+
+// ---- words: numbers whose lowest byte comes first
+
+// The word in the 4 bytes from a place on.
+pub fn low_half_at(s: &[u8], at: usize) -> u64
+    requires { ⌜ at + 4 ≤ length (now s) ⌝ }
+    ensures { λ r. ⌜ (r ≡ lowNumberAt 4 (now (s .entry)) at) × (r < 2 ^ 32) ⌝ }
+{
+    ((wide(s[at + 3]) * 256 + wide(s[at + 2])) * 256 + wide(s[at + 1])) * 256 + wide(s[at])
+}
+
+// The word in the 8 bytes from a place on.
+pub fn low_at(s: &[u8], at: usize) -> u64
+    requires { ⌜ at + 8 ≤ length (now s) ⌝ }
+    ensures { λ r. ⌜ r ≡ lowNumberAt 8 (now (s .entry)) at ⌝ }
+{
+    low_half_at(s, at + 4) * 4294967296 + low_half_at(s, at)
+}
+
+// The number in the bytes of a word.
+fn swapped(w: u64) -> u64
+    ensures { λ r. ⌜ r ≡ fromBigEndian (littleEndian 8 w) ⌝ }
+{
+    w % 256 * 72057594037927936
+        + w / 256 % 256 * 281474976710656
+        + w / 65536 % 256 * 1099511627776
+        + w / 16777216 % 256 * 4294967296
+        + w / 4294967296 % 256 * 16777216
+        + w / 1099511627776 % 256 * 65536
+        + w / 281474976710656 % 256 * 256
+        + w / 72057594037927936
+}
+
+// ---- numbers, highest byte first
 
 // The number in the 4 bytes from a place on.
 pub fn half_at(s: &[u8], at: usize) -> u64
@@ -73,7 +105,7 @@ pub fn number_at(s: &[u8], at: usize) -> u64
     requires { ⌜ at + 8 ≤ length (now s) ⌝ }
     ensures { λ r. ⌜ r ≡ numberAt 8 (now (s .entry)) at ⌝ }
 {
-    half_at(s, at) * 4294967296 + half_at(s, at + 4)
+    swapped(low_at(s, at))
 }
 
 // A number in 8 bytes.

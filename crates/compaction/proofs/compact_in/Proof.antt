@@ -1,39 +1,39 @@
--- The keys are dropped and their dots marked; then the unmarked dots are moved together.
+-- The slots are filled, the keys are dropped and their dots marked; then the unmarked dots are moved together.
 use Prim.Native.Nat.{ℕ, _*_, _≤_}
-use mathlib.Core.Path.{_≡_, sym}
 use mathlib.Core.List.{List}
 use native.Mathlib.Omega.{arith}
-use lib.ListN.{length, take}
-use lib.Seq.{length-take-le}
+use lib.ListN.{length, take, length-take}
 use Rattle.compaction.proofs.Compaction.{compacted}
 use borrow.Author.Needs.{needs}
 use Rattle.compaction.proofs.compact_in.Statement.{statement}
 use Rattle.compaction.proofs.compact_in.Tie as tie
 
-front-length : (s : List ℕ) (k : ℕ) → k ≤ length s → k ≡ length (take k s)
-front-length s k h = sym (length-take-le k s h)
-
-module _ (t : List ℕ) (count : ℕ) (few : count ≤ 128) (size : length t ≡ 1152) where
-  dots-length : count * 9 ≡ length (take (count * 9) t)
-  dots-length = front-length t (count * 9) (omega arith)
-
-  few-dots : length (take (count * 9) t) ≤ 1152
-  few-dots = omega (arith, dots-length)
+few-dots : (t : List ℕ) (count : ℕ) → count ≤ 128 → length (take (count * 9) t) ≤ 1152
+few-dots t count few = rw length-take (omega arith)
 
 mul-size : tie.Need-mul-size
 mul-size c = search needs
+
+slice-reshare-prefix-fill-slots : tie.Need-slice-reshare-prefix-fill-slots
+slice-reshare-prefix-fill-slots c = search needs
+
+slice-aggregate-fill-slots : tie.Need-slice-aggregate-fill-slots
+slice-aggregate-fill-slots c = rw length-take (omega arith)
+
+fill-slots-requires : tie.Need-fill-slots-requires
+fill-slots-requires c κs = search needs
 
 slice-relend-prefix-drop-keys : tie.Need-slice-relend-prefix-drop-keys
 slice-relend-prefix-drop-keys c = search needs
 
 slice-aggregate-drop-keys : tie.Need-slice-aggregate-drop-keys
-slice-aggregate-drop-keys c = search (needs, front-length)
+slice-aggregate-drop-keys c = rw length-take (omega arith)
 
 slice-reshare-prefix-drop-keys : tie.Need-slice-reshare-prefix-drop-keys
 slice-reshare-prefix-drop-keys c = search needs
 
 slice-aggregate-drop-keys-2 : tie.Need-slice-aggregate-drop-keys-2
-slice-aggregate-drop-keys-2 c = search (needs, dots-length)
+slice-aggregate-drop-keys-2 c = rw length-take (omega arith)
 
 drop-keys-requires : tie.Need-drop-keys-requires
 drop-keys-requires c κs = search (needs, few-dots)
@@ -42,7 +42,7 @@ slice-relend-prefix-drop-dots : tie.Need-slice-relend-prefix-drop-dots
 slice-relend-prefix-drop-dots c = search needs
 
 slice-aggregate-drop-dots : tie.Need-slice-aggregate-drop-dots
-slice-aggregate-drop-dots c = search (needs, dots-length)
+slice-aggregate-drop-dots c = rw length-take (omega arith)
 
 drop-dots-requires : tie.Need-drop-dots-requires
 drop-dots-requires c κs = search (needs, few-dots)
@@ -61,6 +61,9 @@ compact-in-spec =
     tie.close
     (tie.spec
     mul-size
+    slice-reshare-prefix-fill-slots
+    slice-aggregate-fill-slots
+    fill-slots-requires
     slice-relend-prefix-drop-keys
     slice-aggregate-drop-keys
     slice-reshare-prefix-drop-keys

@@ -12,10 +12,10 @@ use Rattle.compaction.proofs.drop_keys.Statement.{statement}
 use Rattle.compaction.proofs.drop_keys.Tie as tie
 
 abbrev Inv-loop : tie.InvT-loop
-Inv-loop n keys₀ ascending marks₀ from₀ to₀ keys marks from to = Walked (λ d. member compareDots d (dotsOf ascending)) (dotsOf ascending) n keys₀ keys marks₀ marks from to
+Inv-loop n keys₀ ascending slots marks₀ from₀ to₀ keys marks from to = Walked (λ d. member compareDots d (dotsOf ascending)) (dotsOf ascending) n keys₀ keys marks₀ marks from to
 
 abbrev μ-loop : tie.MeasureT-loop
-μ-loop n keys₀ ascending marks₀ from₀ to₀ keys marks from to = length keys - from
+μ-loop n keys₀ ascending slots marks₀ from₀ to₀ keys marks from to = length keys - from
 
 loop-holds : tie.Need-loop-holds Inv-loop μ-loop
 loop-holds c = search (needs, walk-started)
@@ -43,7 +43,7 @@ drop-key-requires : tie.Need-drop-key-requires Inv-loop μ-loop
 drop-key-requires c κs =
     let turn = c .before .before .before .before .before .before in
     let s = turn .before .before .before in
-    (search needs, search (needs, key-room), search (needs, key-within), s .pre .2, s .pre .3, turn .loop .inv .marks-size ∙ s .pre .4)
+    (search needs, search (needs, key-room), search (needs, key-within), s .pre .2, s .pre .3, s .pre .4, turn .loop .inv .marks-size ∙ s .pre .5)
 
 loop-less : tie.Need-loop-less Inv-loop μ-loop
 loop-less c = search (needs, turn-falls)

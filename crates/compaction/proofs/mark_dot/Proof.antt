@@ -4,13 +4,13 @@ use borrow.Author.Needs.{needs}
 use Rattle.compaction.proofs.mark_dot.Statement.{statement}
 use Rattle.compaction.proofs.mark_dot.Tie as tie
 
-holds-dot-requires : tie.Need-holds-dot-requires
-holds-dot-requires c κs = search needs
+holds-slotted-requires : tie.Need-holds-slotted-requires
+holds-slotted-requires c κs = search needs
 
 returns : tie.Need-returns
 returns c =
     let s = c .before .before .before in
-    unheld (s .args .ascending .now) (s .args .marks .now) (s .args .dot) (s .pre .0) (s .pre .1) (s .pre .2) _ (c .before .holds-dot .ensures) (c .if1 .taken)
+    unheld (s .args .ascending .now) (s .args .marks .now) (s .args .dot) (s .pre .0) (s .pre .2) (s .pre .3) _ (c .before .holds-slotted .ensures) (c .if1 .taken)
 
 search-dot-requires : tie.Need-search-dot-requires
 search-dot-requires c κs = search needs
@@ -18,14 +18,14 @@ search-dot-requires c κs = search needs
 element-write-marks : tie.Need-element-write-marks
 element-write-marks c =
     let s = c .before .before .before .before in
-    mark-place (s .args .ascending .now) (s .args .marks .now) (s .args .dot) (s .pre .0) (s .pre .1) (s .pre .2) _ (c .before .before .holds-dot .ensures) (c .before .if1 .left) _ (c .search-dot .ensures .0)
+    mark-place (s .args .ascending .now) (s .args .marks .now) (s .args .dot) (s .pre .0) (s .pre .2) (s .pre .3) _ (c .before .before .holds-slotted .ensures) (c .before .if1 .left) _ (c .search-dot .ensures .0)
 
 returns-2 : tie.Need-returns-2
 returns-2 c =
     let s = c .before .before .before .before in
-    marked (s .args .ascending .now) (s .args .marks .now) (s .args .dot) (s .pre .0) (s .pre .1) (s .pre .2) _ (c .before .before .holds-dot .ensures) (c .before .if1 .left) _ (c .search-dot .ensures .0)
+    marked (s .args .ascending .now) (s .args .marks .now) (s .args .dot) (s .pre .0) (s .pre .2) (s .pre .3) _ (c .before .before .holds-slotted .ensures) (c .before .if1 .left) _ (c .search-dot .ensures .0)
 
 pub mark-dot-spec : {M : Type 1} → statement M
 mark-dot-spec =
     tie.close
-    (tie.spec holds-dot-requires returns search-dot-requires element-write-marks returns-2)
+    (tie.spec holds-slotted-requires returns search-dot-requires element-write-marks returns-2)

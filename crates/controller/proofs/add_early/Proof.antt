@@ -28,7 +28,7 @@ early-answer-requires : tie.Need-early-answer-requires
 early-answer-requires c κs = search needs
 
 returns : tie.Need-returns
-returns c = let s = c .before .before .before .before .before .before .before .before .before .before .before .before .before in c .early-answer .ensures ∙ rw (c .before .before .before .before .before .damaged .ensures, c .before .before .before .before .label-ok .ensures, c .before .before .before .context-bad .ensures, c .before .before .has-next .ensures, c .before .own-ahead .ensures, ahead-is (s .args .state) (s .args .store .now) _ (dotsOf (s .args .context .now)) (c .before .before .before .before .before .before .own-base .ensures), c .before .before .before .before .before .before .own-base .ensures)
+returns c = let s = c .before .before .before .before .before .before .before .before .before .before .before .before .before .before .before .before .before .before in c .early-answer .ensures ∙ rw (c .before .before .before .before .before .damaged .ensures, c .before .before .before .before .label-ok .ensures, c .before .before .before .context-bad .ensures, c .before .before .has-next .ensures, c .before .own-ahead .ensures, ahead-is (s .args .t1) (s .args .store .now) _ (dotsOf (s .args .context .now)) (c .before .before .before .before .before .before .before .before .before .before .before .own-base .ensures), c .before .before .before .before .before .before .before .before .before .before .before .own-base .ensures)
 
 pub add-early-spec : {M : Type 1} → statement M
 add-early-spec =

@@ -14,12 +14,12 @@ same-length c = search needs
 
 returns : tie.Need-returns
 returns c =
-    let s = c .before .before .before .before in
-    compact-refused (s .args .state) (s .args .store .now) (sym (c .before .damaged .ensures) ∙ c .if1 .taken)
+    let s = c .before .before .before .before .before .before .before .before .before in
+    compact-refused (s .args .t1) (s .args .store .now) (sym (c .before .damaged .ensures) ∙ c .if1 .taken)
 
 compact-whole-requires : tie.Need-compact-whole-requires
 compact-whole-requires c κs =
-    let st = c .before .before .before .before .before .args .state in
+    let st = c .before .before .before .before .before .before .before .before .before .before .args .t1 in
     let named : length (st .name .bytes) ≡ 16 = search needs in
     let size : length (st .tombstone .bytes) ≡ 1152 = search needs in
     (sym (c .before .before .damaged .ensures) ∙ c .before .if1 .left, named, size)
@@ -29,10 +29,10 @@ same-length-2 c = search needs
 
 returns-2 : tie.Need-returns-2
 returns-2 c =
-    let s = c .before .before .before .before .before .before .before .before in
+    let s = c .before .before .before .before .before .before .before .before .before .before .before .before .before in
     let tested = c .before .before .before .before in
     let call = c .before .before .compact-whole .ensures in
-    compact-done (s .args .state) (s .args .store .now) _ _ (sym (tested .before .damaged .ensures) ∙ tested .if1 .left) (call .0) (call .1)
+    compact-done (s .args .t1) (s .args .store .now) _ _ (sym (tested .before .damaged .ensures) ∙ tested .if1 .left) (call .0) (call .1)
 
 pub compact-spec : {M : Type 1} → statement M
 compact-spec =

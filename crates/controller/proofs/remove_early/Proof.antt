@@ -22,7 +22,7 @@ early-answer-requires : tie.Need-early-answer-requires
 early-answer-requires c κs = search needs
 
 returns : tie.Need-returns
-returns c = let s = c .before .before .before .before .before .before .before .before .before .before in c .early-answer .ensures ∙ rw (c .before .before .before .damaged .ensures, c .before .before .context-bad .ensures, c .before .own-ahead .ensures, ahead-is (s .args .state) (s .args .store .now) _ (dotsOf (s .args .context .now)) (c .before .before .before .before .own-base .ensures))
+returns c = let s = c .before .before .before .before .before .before .before .before .before .before .before .before .before .before .before in c .early-answer .ensures ∙ rw (c .before .before .before .damaged .ensures, c .before .before .context-bad .ensures, c .before .own-ahead .ensures, ahead-is (s .args .t1) (s .args .store .now) _ (dotsOf (s .args .context .now)) (c .before .before .before .before .before .before .before .before .before .own-base .ensures))
 
 pub remove-early-spec : {M : Type 1} → statement M
 remove-early-spec =

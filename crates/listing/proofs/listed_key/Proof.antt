@@ -32,22 +32,22 @@ part-key-dot-end c = search (needs, end-within)
 key-dot-requires : tie.Need-key-dot-requires
 key-dot-requires c κs = search (needs, dot-room)
 
-holds-dot-requires : tie.Need-holds-dot-requires
-holds-dot-requires c κs = search needs
+holds-slotted-requires : tie.Need-holds-slotted-requires
+holds-slotted-requires c κs = search needs
 
-add-t10 : tie.Need-add-t10
-add-t10 c = search needs
+add-t11 : tie.Need-add-t11
+add-t11 c = search needs
 
-add-t8 : tie.Need-add-t8
-add-t8 c = search needs
+add-t9 : tie.Need-add-t9
+add-t9 c = search needs
 
-sub-t16 : tie.Need-sub-t16
-sub-t16 c = search (needs, past-label)
+sub-t17 : tie.Need-sub-t17
+sub-t17 c = search (needs, past-label)
 
 returns : tie.Need-returns
 returns c =
     let start = c .before .before .before .before .before .before .before in
-    key-at _ _ _ _ (start .pre .1) (start .pre .2) (c .before .before .before .key-length .ensures) _ _ _ (c .before .key-dot .ensures) (c .holds-dot .ensures)
+    key-at _ _ _ _ (start .pre .1) (start .pre .2) (c .before .before .before .key-length .ensures) _ _ _ (c .before .key-dot .ensures) (c .holds-slotted .ensures)
 
 pub listed-key-spec : {M : Type 1} → statement M
 listed-key-spec =
@@ -62,8 +62,8 @@ listed-key-spec =
     part-key-dot-start
     part-key-dot-end
     key-dot-requires
-    holds-dot-requires
-    add-t10
-    add-t8
-    sub-t16
+    holds-slotted-requires
+    add-t11
+    add-t9
+    sub-t17
     returns)

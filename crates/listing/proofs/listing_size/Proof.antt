@@ -11,10 +11,10 @@ use Rattle.listing.proofs.listing_size.Statement.{statement}
 use Rattle.listing.proofs.listing_size.Tie as tie
 
 abbrev Inv-loop : tie.InvT-loop
-Inv-loop n keys tombstone line₀ at₀ line at = (bytes : Bytes) × Walked n keys (dotsOf tombstone) at line bytes
+Inv-loop n keys tombstone slots line₀ at₀ line at = (bytes : Bytes) × Walked n keys (dotsOf tombstone) at line bytes
 
 abbrev μ-loop : tie.MeasureT-loop
-μ-loop n keys tombstone line₀ at₀ line at = length keys - at
+μ-loop n keys tombstone slots line₀ at₀ line at = length keys - at
 
 loop-holds : tie.Need-loop-holds Inv-loop μ-loop
 loop-holds c = ([], walk-start _ _ _ (c .before .before .pre .2))

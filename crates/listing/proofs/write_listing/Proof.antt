@@ -14,10 +14,10 @@ use Rattle.listing.proofs.write_listing.Statement.{statement}
 use Rattle.listing.proofs.write_listing.Tie as tie
 
 abbrev Inv-loop : tie.InvT-loop
-Inv-loop n keys tombstone out₀ line₀ at₀ out line at = (bytes : Bytes) × Walked n keys (dotsOf tombstone) at line bytes × (out ≡ putAt out₀ 0 bytes) × (length out ≡ length out₀)
+Inv-loop n keys tombstone slots out₀ line₀ at₀ out line at = (bytes : Bytes) × Walked n keys (dotsOf tombstone) at line bytes × (out ≡ putAt out₀ 0 bytes) × (length out ≡ length out₀)
 
 abbrev μ-loop : tie.MeasureT-loop
-μ-loop n keys tombstone out₀ line₀ at₀ out line at = length keys - at
+μ-loop n keys tombstone slots out₀ line₀ at₀ out line at = length keys - at
 
 room-left : (m n k : ℕ) → m ≤ n → k ≡ n → m ≤ k
 room-left m n k h e = omega arith
@@ -47,7 +47,7 @@ write-dot-requires c κs =
     let turn = c .before .before .before .before .before .before in
     let pre = turn .before .before .before .before .pre in
     dot-fits _ _ _ _ _ _ (turn .loop .inv .1) _ (c .before .before .before .before .listed-key .ensures) (c .before .before .before .if1 .taken) _ (c .before .before .next-line .ensures) (pre .1) _
-    (room-left _ _ _ (pre .4) (turn .loop .inv .3))
+    (room-left _ _ _ (pre .5) (turn .loop .inv .3))
 
 loop-less : tie.Need-loop-less Inv-loop μ-loop
 loop-less c = search needs
@@ -58,7 +58,7 @@ loop-again c =
     let turn = read .before .before .before .before in
     let pre = turn .before .before .before .before .pre in
     let passed = walk-live _ _ _ _ _ _ (turn .loop .inv .1) _ (read .before .before .listed-key .ensures) (read .before .if1 .taken) _ (read .next-line .ensures) in
-    (passed .after, passed .walked, c .before .before .write-dot .ensures ∙ passed .writes _ _ (pre .4) (turn .loop .inv .2), search needs)
+    (passed .after, passed .walked, c .before .before .write-dot .ensures ∙ passed .writes _ _ (pre .5) (turn .loop .inv .2), search needs)
 
 loop-less-2 : tie.Need-loop-less-2 Inv-loop μ-loop
 loop-less-2 c = search needs
@@ -74,7 +74,7 @@ same-length c = search needs
 returns : tie.Need-returns Inv-loop μ-loop
 returns c =
     let end = listed-end _ _ _ _ (walk-end _ _ _ _ _ _ (c .before .loop .inv .1) (c .loop-test .left)) in
-    c .before .loop .inv .2 ∙ rw (end .0) (put-front _ _)
+    (end .1, end .2, c .before .loop .inv .2 ∙ rw (end .0) (put-front _ _))
 
 pub write-listing-spec : {M : Type 1} → statement M
 write-listing-spec =

@@ -1,12 +1,13 @@
 -- The invariant: no 0 stands from the place on before i. The measure is what is left of the length.
-use Prim.Native.Nat.{ℕ, zero, suc, _+_, _-_, _≤_, _<_}
-use mathlib.Core.Path.{_≡_, refl}
+use Prim.Native.Nat.{ℕ, _+_, _-_, _≤_, _<_}
+use mathlib.Core.Path.{_≡_}
 use native.Mathlib.Omega.{arith}
 use borrow.Author.Needs.{needs}
-use mathlib.Core.List.{List, _∷_}
+use mathlib.Core.List.{List}
 use lib.ListN.{length, drop, getD, drop-of-length-le}
 use Rattle.wire.specs.Bytes.{zeroAt}
 use Rattle.wire.proofs.Parts.{drop-step}
+use Rattle.search.proofs.ZeroBytes.{zero-first, zero-later}
 use Rattle.search.proofs.zero_from.Statement.{statement}
 use Rattle.search.proofs.zero_from.Tie as tie
 
@@ -15,16 +16,6 @@ Inv-loop s from i₀ i = (i ≤ length s) × (from + zeroAt (drop from s) ≡ i 
 
 abbrev μ-loop : tie.MeasureT-loop
 μ-loop s from i₀ i = length s - i
-
-zero-first : (b : ℕ) (bs : List ℕ) → b ≡ 0 → zeroAt (b ∷ bs) ≡ 0
-unfolding zeroAt
-zero-first zero bs e = refl
-zero-first (suc b) bs e = absurd (omega arith)
-
-zero-later : (b : ℕ) (bs : List ℕ) → (b ≡ 0 → ⊥) → zeroAt (b ∷ bs) ≡ suc (zeroAt bs)
-unfolding zeroAt
-zero-later zero bs e = absurd (e refl)
-zero-later (suc b) bs e = refl
 
 -- what the invariant says of the first 0, at z, where the loop is left at a 0, goes on, and ends
 module _ (s : List ℕ) (i z : ℕ) (inv : z ≡ i + zeroAt (drop i s)) where

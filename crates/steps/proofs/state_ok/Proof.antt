@@ -1,23 +1,30 @@
 -- The definition follows the tests.
+use Prim.Native.Nat.{ℕ, _*_}
 use mathlib.Core.Bool.{Bool, _&&_}
+use mathlib.Core.List.{List}
 use mathlib.Core.Path.{_≡_}
 use lib.Dec.{leb}
+use lib.ListN.{take}
+use Rattle.wire.specs.Lists.{all}
+use Rattle.wire.specs.Bytes.{Bytes}
+use Rattle.dots.specs.declared.Actor.{Actor}
+use Rattle.dots.specs.Names.{nameMost, nameOk}
+use Rattle.dots.specs.Dots.{ascendingDots}
+use Rattle.dots.specs.Wire.{dotsOf}
 use Rattle.clock.specs.Row.{windowWidth}
-use Rattle.clock.specs.Clock.{clockOk}
-use Rattle.calls.specs.declared.State.{State}
-use Rattle.calls.specs.Damage.{stateNameOk, tombstoneOk}
-use Rattle.steps.specs.Tests.{stateOk}
+use Rattle.clock.specs.Clock.{sees, clockOk}
+use Rattle.calls.specs.Damage.{zeroFrom, stateNameOk, tombstoneMost, tombstoneOk}
+use Rattle.steps.specs.Tests.{stateFrom, stateOk}
 use borrow.Author.Needs.{needs}
 use Rattle.steps.proofs.state_ok.Statement.{statement}
 use Rattle.steps.proofs.state_ok.Tie as tie
 
-tested : (st : State) (named rows removed : Bool) → named ≡ stateNameOk st → rows ≡ clockOk windowWidth (st .actor .number) (st .clock .words) → removed ≡ tombstoneOk st
-    → ((leb 1 (st .actor .number) && leb (st .actor .number) 16) && (named && (rows && removed))) ≡ stateOk st
-unfolding stateOk
-tested st named rows removed e f g = rw (e, f, g)
-
-slice-aggregate-set-name-ok : tie.Need-slice-aggregate-set-name-ok
-slice-aggregate-set-name-ok c = search needs
+tested : (own : Actor) (name : Bytes) (len : ℕ) (words : List ℕ) (tombstone : Bytes) (count : ℕ) (named rows removed : Bool)
+    → named ≡ (leb len nameMost && (nameOk (take len name) && zeroFrom len name)) → rows ≡ clockOk windowWidth (own .number) words
+    → removed ≡ (leb count tombstoneMost && (ascendingDots (dotsOf (take (count * 9) tombstone)) && (all (sees words) (dotsOf (take (count * 9) tombstone)) && zeroFrom (count * 9) tombstone)))
+    → ((leb 1 (own .number) && leb (own .number) 16) && (named && (rows && removed))) ≡ stateOk (stateFrom own name len words tombstone count 0)
+unfolding stateOk stateNameOk tombstoneOk
+tested own name len words tombstone count named rows removed e f g = rw (e, f, g)
 
 set-name-ok-requires : tie.Need-set-name-ok-requires
 set-name-ok-requires c κs = search needs
@@ -25,25 +32,12 @@ set-name-ok-requires c κs = search needs
 clock-ok-requires : tie.Need-clock-ok-requires
 clock-ok-requires c κs = search needs
 
-slice-aggregate-tombstone-ok : tie.Need-slice-aggregate-tombstone-ok
-slice-aggregate-tombstone-ok c = search needs
-
 tombstone-ok-requires : tie.Need-tombstone-ok-requires
 tombstone-ok-requires c κs = search needs
 
 returns : tie.Need-returns
-unfolding stateNameOk tombstoneOk
-returns c =
-    let checked = c .before .before .before .before .before .before .before in
-    tested (checked .before .before .before .before .before .before .args .state) _ _ _ (checked .set-name-ok .ensures) (c .before .before .before .before .before .clock-ok .ensures) (c .before .before .tombstone-ok .ensures)
+returns c = search (needs, tested)
 
 pub state-ok-spec : {M : Type 1} → statement M
 state-ok-spec =
-    tie.close
-    (tie.spec
-    slice-aggregate-set-name-ok
-    set-name-ok-requires
-    clock-ok-requires
-    slice-aggregate-tombstone-ok
-    tombstone-ok-requires
-    returns)
+    tie.close (tie.spec set-name-ok-requires clock-ok-requires tombstone-ok-requires returns)

@@ -5,7 +5,7 @@ use Rattle.steps.proofs.store_sound.Statement.{statement}
 use Rattle.steps.proofs.store_sound.Tie as tie
 
 slice-aggregate-store-ok : tie.Need-slice-aggregate-store-ok
-slice-aggregate-store-ok c = let s = c .before .before .before in front-size (s .args .name .now) (s .args .len) (s .pre .0)
+slice-aggregate-store-ok c = let s = c .before .before .before .before in front-size (s .args .name .now) (s .args .len) (s .pre .0)
 
 store-ok-requires : tie.Need-store-ok-requires
 store-ok-requires c κs = search needs

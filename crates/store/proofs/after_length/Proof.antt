@@ -1,5 +1,5 @@
 -- By the tests, which are those of the bytes themselves.
-use Rattle.store.proofs.Front.{after-short, after-passed, after-failed}
+use Rattle.store.proofs.Front.{after-short, after-failed, after-passed, after-unseen}
 use borrow.Author.Needs.{needs}
 use Rattle.store.proofs.after_length.Statement.{statement}
 use Rattle.store.proofs.after_length.Tie as tie
@@ -31,17 +31,20 @@ add-number-at c = search needs
 number-at-requires : tie.Need-number-at-requires
 number-at-requires c κs = search needs
 
+returns-2 : tie.Need-returns-2
+returns-2 c = search (needs, after-failed)
+
 sees-requires : tie.Need-sees-requires
 sees-requires c κs = search needs
 
 add-result : tie.Need-add-result
 add-result c = search needs
 
-returns-2 : tie.Need-returns-2
-returns-2 c = after-passed _ _ _ (c .before .before .before .before .before .before .zero-at .ensures .0) (c .before .before .before .before .before .if1 .left) _ (c .before .before .number-at .ensures) _ (c .before .sees .ensures) (c .if2 .taken)
-
 returns-3 : tie.Need-returns-3
-returns-3 c = search (needs, after-failed)
+returns-3 c = after-passed _ _ _ (c .before .before .before .before .before .before .before .zero-at .ensures .0) (c .before .before .before .before .before .before .if1 .left) _ (c .before .before .before .number-at .ensures) (c .before .before .if2 .left) _ (c .before .sees .ensures) (c .if3 .taken)
+
+returns-4 : tie.Need-returns-4
+returns-4 c = search (needs, after-unseen)
 
 pub after-length-spec : {M : Type 1} → statement M
 after-length-spec =
@@ -56,7 +59,8 @@ after-length-spec =
     shared-slice-read-ended
     add-number-at
     number-at-requires
+    returns-2
     sees-requires
     add-result
-    returns-2
-    returns-3)
+    returns-3
+    returns-4)

@@ -4,15 +4,17 @@ use mathlib.Core.Path.{_≡_}
 use mathlib.Core.Bool.{true}
 use native.Mathlib.Omega.{arith}
 use lib.ListN.{length, take}
-use Rattle.wire.specs.Bytes.{Bytes, putAt, insertedAt}
+use lib.Seq.{take-at}
+use Rattle.wire.specs.Lists.{all}
+use Rattle.wire.specs.Bytes.{Bytes, startsWith, putAt, insertedAt}
 use Rattle.dots.specs.Names.{Name, Label, nameOk, labelOk}
 use Rattle.dots.specs.declared.Dot.{Dot}
 use Rattle.dots.specs.Entries.{entry}
-use Rattle.keys.specs.Entry.{entryKey}
-use Rattle.keys.proofs.EntryKeys.{length-entry-key}
+use Rattle.keys.specs.Entry.{prefix, entryKey}
+use Rattle.keys.proofs.EntryKeys.{entry-key-parts, length-prefix, length-entry-key}
 use Rattle.store.specs.Cut.{keysOf}
 use Rattle.store.specs.Place.{placeIn, insertedEntry}
-use Rattle.store.proofs.Starts.{name-most, label-most, put-read, put-size, put-room}
+use Rattle.store.proofs.Starts.{name-most, label-most, label-some, put-read, put-size, put-room}
 use borrow.Author.Needs.{needs}
 use Rattle.store.proofs.insert_entry.Statement.{statement}
 use Rattle.store.proofs.insert_entry.Tie as tie
@@ -23,6 +25,12 @@ fits name label ok ok′ = omega (arith, name-most name ok, label-most label ok�
 module _ (name : Name) (label : Label) (d : Dot) (s t store : Bytes) (n used : ℕ) (put : t ≡ putAt s 0 (entryKey name (entry label d))) (count : n ≡ length name + length label + 15) where
   key-read : take n t ≡ entryKey name (entry label d)
   key-read = put-read s t (entryKey name (entry label d)) n (length name + length label + 15) put count (length-entry-key name (entry label d))
+
+  long : labelOk label ≡ true → length name + 12 ≤ length (take n t)
+  long ok = rw (key-read, length-entry-key) (omega (arith, label-some label ok))
+
+  begin : all (startsWith (prefix name)) (keysOf (length name) (take used store)) ≡ true → all (startsWith (take (length name + 4) (take n t))) (keysOf (length name) (take used store)) ≡ true
+  begin every = rw (key-read, entry-key-parts, take-at (prefix name) _ (length name + 4) (length-prefix name)) every
 
   room : used + (length name + length label + 15) ≤ length store → used + length (take n t) ≤ length store
   room h = rw (key-read, length-entry-key) h
@@ -44,7 +52,7 @@ slice-aggregate-insert-key : tie.Need-slice-aggregate-insert-key
 slice-aggregate-insert-key c = search (needs, put-size, length-entry-key)
 
 insert-key-requires : tie.Need-insert-key-requires
-insert-key-requires c κs = (search (needs, name-most), search (needs, room))
+insert-key-requires c κs = (search (needs, name-most), search (needs, long), search (needs, begin), search (needs, room))
 
 add-result : tie.Need-add-result
 add-result c = search needs

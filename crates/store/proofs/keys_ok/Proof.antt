@@ -1,22 +1,29 @@
--- The invariant: the keys before `at` keep the rules, and the last of them has its label at `label`, so the rest decides. The measure is what is left of the keys.
-use Prim.Native.Nat.{_-_, _≤_}
+-- The invariant: the keys before `at` keep the rules, the last of them has its label at `label` and its first numbers in `word` and `half`, so the rest decides. The measure is what is left of the keys.
+use Prim.Native.Nat.{_-_}
 use mathlib.Core.Path.{_≡_}
+use native.Mathlib.Omega.{arith}
 use lib.ListN.{length, take, drop}
 use Rattle.store.specs.Cut.{keysOf}
 use Rattle.store.specs.Valid.{usedOk}
-use Rattle.store.proofs.OnePass.{restOk, started, ended, no-key, end-within, tail-within, end-fits, tail-fits, falls, out-of-order, passed}
+use Rattle.store.specs.Front.{FirstNumbers}
+use Rattle.store.proofs.FirstNumbers.{numbers-none, numbers-read}
+use Rattle.store.proofs.OnePass.{Bounds, bounds, restOk, started, ended, no-key, out-of-order, passed}
 use borrow.Author.Needs.{needs}
 use Rattle.store.proofs.keys_ok.Statement.{statement}
 use Rattle.store.proofs.keys_ok.Tie as tie
 
 abbrev Inv-loop : tie.InvT-loop
-Inv-loop name start words keys label₀ at₀ label at = (label ≤ at) × ((at ≤ length keys) × (usedOk name words keys ≡ restOk name words (take (at - label) (drop label keys)) (keysOf (length name) (drop at keys))))
+Inv-loop name start words keys word₀ half₀ label₀ at₀ word half label at = FirstNumbers keys label at word half × (usedOk name words keys ≡ restOk name words (take (at - label) (drop label keys)) (keysOf (length name) (drop at keys)))
 
 abbrev μ-loop : tie.MeasureT-loop
-μ-loop name start words keys label₀ at₀ label at = length keys - at
+μ-loop name start words keys word₀ half₀ label₀ at₀ word half label at = length keys - at
+
+-- the bounds of the key that was read
+read-bounds : (c : tie.Else1 Inv-loop μ-loop) → Bounds (c .before .before .before .before .before .before .before .before .args .name .now) (c .before .before .before .before .before .before .before .before .args .keys .now) (c .before .before .before .before .loop .at) (c .before .front-length .result)
+read-bounds c = bounds _ _ _ _ _ (c .before .front-length .ensures) (c .if1 .left) (c .before .before .before .loop-test .taken)
 
 loop-holds : tie.Need-loop-holds Inv-loop μ-loop
-loop-holds c = search (needs, started)
+loop-holds c = search (needs, numbers-none, started)
 
 sub-front-length : tie.Need-sub-front-length Inv-loop μ-loop
 sub-front-length c = search needs
@@ -37,40 +44,31 @@ add-next : tie.Need-add-next Inv-loop μ-loop
 add-next c = search needs
 
 add-next-2 : tie.Need-add-next-2 Inv-loop μ-loop
-add-next-2 c = search (needs, tail-fits)
+add-next-2 c = let ends = read-bounds c in omega arith
 
 add-end : tie.Need-add-end Inv-loop μ-loop
-add-end c = search (needs, end-fits)
+add-end c = let ends = read-bounds c in omega arith
 
-sub-lower : tie.Need-sub-lower Inv-loop μ-loop
-sub-lower c = search needs
+number-at-requires : tie.Need-number-at-requires Inv-loop μ-loop
+number-at-requires c κs = let ends = read-bounds c in omega arith
 
-part-lower-start : tie.Need-part-lower-start Inv-loop μ-loop
-part-lower-start c = search needs
+add-half-at : tie.Need-add-half-at Inv-loop μ-loop
+add-half-at c = let ends = read-bounds (c .before) in omega arith
 
-part-lower-end : tie.Need-part-lower-end Inv-loop μ-loop
-part-lower-end c = search needs
+half-at-requires : tie.Need-half-at-requires Inv-loop μ-loop
+half-at-requires c κs = let ends = read-bounds (c .before) in omega arith
 
-sub-lower-2 : tie.Need-sub-lower-2 Inv-loop μ-loop
-sub-lower-2 c = search (needs, tail-within)
-
-part-lower-start-2 : tie.Need-part-lower-start-2 Inv-loop μ-loop
-part-lower-start-2 c = search (needs, tail-within)
-
-part-lower-end-2 : tie.Need-part-lower-end-2 Inv-loop μ-loop
-part-lower-end-2 c = search (needs, end-within)
-
-lower-requires : tie.Need-lower-requires Inv-loop μ-loop
-lower-requires c κs = search needs
+ascends-requires : tie.Need-ascends-requires Inv-loop μ-loop
+ascends-requires c κs = let ends = read-bounds (c .before .before) in (search needs, (search (needs, numbers-read), omega arith))
 
 returns-2 : tie.Need-returns-2 Inv-loop μ-loop
 returns-2 c = search (needs, out-of-order)
 
 loop-less : tie.Need-loop-less Inv-loop μ-loop
-loop-less c = search (needs, falls)
+loop-less c = let ends = read-bounds (c .before .before .before .before) in omega arith
 
 loop-again : tie.Need-loop-again Inv-loop μ-loop
-loop-again c = search (needs, tail-within, end-within, passed)
+loop-again c = let ends = read-bounds (c .before .before .before .before) in search (needs, numbers-read, passed)
 
 returns-3 : tie.Need-returns-3 Inv-loop μ-loop
 returns-3 c = search (needs, ended)
@@ -90,13 +88,10 @@ keys-ok-spec =
     add-next
     add-next-2
     add-end
-    sub-lower
-    part-lower-start
-    part-lower-end
-    sub-lower-2
-    part-lower-start-2
-    part-lower-end-2
-    lower-requires
+    number-at-requires
+    add-half-at
+    half-at-requires
+    ascends-requires
     returns-2
     loop-less
     loop-again

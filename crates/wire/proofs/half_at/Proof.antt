@@ -1,11 +1,10 @@
 -- Four bytes, one after the other.
 use Prim.Native.Nat.{ℕ, _+_, _*_, _≤_}
 use mathlib.Core.Path.{_≡_}
-use mathlib.Core.List.{List, [], _∷_}
-use native.Mathlib.Omega.{arith}
-use lib.ListN.{length, take, drop, getD}
+use mathlib.Core.List.{List}
+use lib.ListN.{length, getD}
 use Rattle.wire.specs.Bytes.{numberAt}
-use Rattle.wire.proofs.Parts.{part-step, part-offset}
+use Rattle.wire.proofs.Parts.{part-four}
 use Rattle.wire.proofs.BigEndian.{from-four}
 use borrow.Author.Needs.{needs}
 use Rattle.wire.proofs.half_at.Statement.{statement}
@@ -13,10 +12,7 @@ use Rattle.wire.proofs.half_at.Tie as tie
 
 four : (s : List ℕ) (at a b c d : ℕ) → at + 4 ≤ length s → a ≡ getD s at 0 → b ≡ getD s (at + 1) 0 → c ≡ getD s (at + 2) 0 → d ≡ getD s (at + 3) 0
     → ((a * 256 + b) * 256 + c) * 256 + d ≡ numberAt 4 s at
-four s at a b c d h p q r t =
-    let bytes : take 4 (drop at s) ≡ getD s at 0 ∷ getD s (at + 1) 0 ∷ getD s (at + 2) 0 ∷ getD s (at + 3) 0 ∷ [] =
-    rw (part-step s at 3 (omega arith), part-offset s at 1 2 (omega arith), part-offset s at 2 1 (omega arith), part-offset s at 3 0 (omega arith)) in
-    rw (p, q, r, t, bytes) (from-four (getD s at 0) (getD s (at + 1) 0) (getD s (at + 2) 0) (getD s (at + 3) 0))
+four s at a b c d h p q r t = rw (p, q, r, t, part-four s at h) (from-four (getD s at 0) (getD s (at + 1) 0) (getD s (at + 2) 0) (getD s (at + 3) 0))
 
 shared-slice-read-wide : tie.Need-shared-slice-read-wide
 shared-slice-read-wide c = search needs

@@ -1,0 +1,2 @@
+-- Slots: a table that tells most dots that are not in a list.
+pub mod Slots
