@@ -28,6 +28,7 @@ use Rattle.compaction.proofs.Marks.{keep-shorter}
 use Rattle.compaction.proofs.CompactedEntries.{store-left, used-left, tombstone-left, count-left}
 use Rattle.replica.specs.Machine.{live, droppedDots, compacted, effect}
 use Rattle.calls.specs.declared.State.{State}
+use Rattle.calls.specs.declared.Outcome.{Outcome}
 use Rattle.calls.specs.State.{clockModel, Machine, nameOf, tombstoneDots, usedPart, entries, view}
 use Rattle.calls.specs.Damage.{zeroFrom, stateNameOk, tombstoneOk, damaged}
 use Rattle.calls.specs.Effect.{padded, tombstoneOf, keysPart, stateOf, storeOf}
@@ -116,7 +117,7 @@ module _ (st : State) (store : Bytes) (h : damaged st store ≡ false) (named : 
     of-name : Compacts (length (nameOf st)) (st .used) (st .tombstone .count) store (st .tombstone .bytes) store′ tombstone′ r
     of-name = subst (λ (n : ℕ). Compacts n (st .used) (st .tombstone .count) store (st .tombstone .bytes) store′ tombstone′ r) (sym name-length) c
 
-    pub compact-store : store′ ≡ storeOf st store after
+    compact-store : store′ ≡ storeOf st store after
     unfolding compacted view
     compact-store = store-left (nameOf st) (st .used) (st .tombstone .count) store (st .tombstone .bytes) store′ tombstone′ r of-name (entries st store) (entries-of st store u .valid) keys ∙ store-compacted
 
@@ -132,12 +133,14 @@ module _ (st : State) (store : Bytes) (h : damaged st store ≡ false) (named : 
     unfolding compacted view
     count-is = count-left (nameOf st) (st .used) (st .tombstone .count) store (st .tombstone .bytes) store′ tombstone′ r of-name (entries st store) (entries-of st store u .valid) keys
 
-    pub compact-state : (left : State) → left ≡ stateWith st (st .clock .words) (record { bytes = tombstone′; count = r .count }) (r .used) → left ≡ stateOf st after
+    state-left : _≡_ {A = State} (stateWith st (st .clock .words) (record { bytes = tombstone′; count = r .count }) (r .used)) (stateOf st after)
     unfolding stateOf compacted view
-    compact-state left e =
-        let same : stateWith st (st .clock .words) (record { bytes = tombstone′; count = r .count }) (r .used) ≡ stateWith st (st .clock .words) (tombstoneOf (after .tombstone)) (length (keysPart st after)) =
-        λ i. stateWith st (st .clock .words) (record { bytes = bytes-are i; count = count-is i }) (used-is i) in
-        e ∙ same
+    state-left = λ i. stateWith st (st .clock .words) (record { bytes = bytes-are i; count = count-is i }) (used-is i)
+
+    pub compact-leaves : Leaves (compactDone st store) store′ []
+        (record { answer = Done; state = record { actor = st .actor; name = st .name; clock = record { words = st .clock .words }; tombstone = record { bytes = tombstone′; count = r .count }; used = r .used }; written = 0 })
+    unfolding effect
+    compact-leaves = record { answered = refl; state-is = state-left; written-is = refl; store-is = compact-store; out-is = refl }
 
 -- ---- the call
 
@@ -153,8 +156,5 @@ module _ (st : State) (store : Bytes) where
   pub compact-refused : damaged st store ≡ true → Leaves (compactResult st store) store [] (record { answer = Damaged; state = st; written = 0 })
   compact-refused h = rw (result-refused h) (record { answered = refl; state-is = refl; written-is = refl; store-is = refl; out-is = refl })
 
-  pub compact-done : (left : State) (store′ : Bytes) → damaged st store ≡ false
-      → left ≡ stateOf st (compacted clockModel (view st store)) → store′ ≡ storeOf st store (compacted clockModel (view st store))
-      → Leaves (compactResult st store) store′ [] (record { answer = Done; state = left; written = 0 })
-  unfolding effect
-  compact-done left store′ h e f = rw (result-done h) (record { answered = refl; state-is = e; written-is = refl; store-is = f; out-is = refl })
+  pub compact-done : (store′ : Bytes) (r : Outcome) → damaged st store ≡ false → Leaves (compactDone st store) store′ [] r → Leaves (compactResult st store) store′ [] r
+  compact-done store′ r h left = rw (result-done h) left

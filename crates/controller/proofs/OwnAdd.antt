@@ -57,7 +57,7 @@ module _ (st : State) (store : Bytes) (u : Undamaged st store) where
       let other = eqb-false (rowAt (st .clock .words) (st .actor .number) .base) maxCounter h in
       omega arith
 
-  own-unseen : sees (st .clock .words) (ownNext st) ≡ false
+  pub own-unseen : sees (st .clock .words) (ownNext st) ≡ false
   unfolding view
   own-unseen = next-unseen st store u
 

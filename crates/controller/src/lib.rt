@@ -18,19 +18,19 @@ ghost use Rattle.store.specs.Place.{stretchStart, stretchEnd};
 ghost use Rattle.store.specs.Valid.{storeMost, keysFit};
 ghost use Rattle.calls.specs.Damage.{tombstoneMost, damaged as isDamaged};
 ghost use Rattle.calls.specs.State.{clockModel, view};
-ghost use Rattle.steps.specs.Tests.{stateOk, ContextFits, earlyRefusals, MayOffer};
+ghost use Rattle.steps.specs.Tests.{stateFrom, stateOk, ContextFits, earlyRefusals, MayOffer};
 ghost use Rattle.controller.specs.Work.{addEarly, takenLate, takenAnswer, Answers, MayAdd, Added, MayTakeIn, MayRemove, Removed};
 ghost use Rattle.messages.specs.Read.{nameOf as messageName, messageOf, readOf};
 ghost use Rattle.messages.proofs.Accepted.{Found};
 ghost use Rattle.calls.specs.Refusals.{badContext, ownAhead};
 ghost use Rattle.calls.specs.Effect.{padded, stateOf, storeOf};
-ghost use Rattle.calls.specs.Calls.{freshState, setUp, ownAddResult, ownRemoveResult, takeInResult, listResult, compactResult, lookupRefusals, ownAddRefusals, ownRemoveRefusals, takeInRefusals};
+ghost use Rattle.calls.specs.Calls.{freshState, setUp, ownAddResult, ownRemoveResult, takeInResult, listResult, compactDone, compactResult, lookupRefusals, ownAddRefusals, ownRemoveRefusals, takeInRefusals};
 ghost use Rattle.calls.specs.Promise.{Leaves, Lists, LooksUp};
 ghost use Rattle.wire.specs.Bytes.{IsPart, compareBytes};
 ghost use Rattle.store.specs.Cut.{entriesIn};
 ghost use Rattle.listing.specs.Listing.{linesOfLive};
 ghost use Rattle.controller.specs.Reads.{Readable, linesIn, ListsLines};
-ghost use Rattle.replica.specs.Machine.{effect, takeIn, compacted};
+ghost use Rattle.replica.specs.Machine.{effect, takeIn};
 
 // ---- applying a context
 
@@ -110,13 +110,11 @@ pub fn set_up(actor: u8, name: &[u8]) -> calls::SetUp
 // ---- own add
 
 // The dot that an own add takes.
-fn next_dot(state: calls::State) -> dots::Dot
-    requires { ⌜ rowAt (state .clock .words) (state .actor .number) .base + 1 ≤ maxCounter ⌝ }
-    ensures { λ r. ⌜ r ≡ dotOf (state .actor) (rowAt (state .clock .words) (state .actor .number) .base + 1) ⌝ }
+fn next_dot(own: dots::Actor, words: &[u64; 32]) -> dots::Dot
+    requires { ⌜ rowAt (now words) (own .number) .base + 1 ≤ maxCounter ⌝ }
+    ensures { λ r. ⌜ r ≡ dotOf own (rowAt (now (words .entry)) (own .number) .base + 1) ⌝ }
 {
-    let words = state.clock.words;
-    let own = state.actor;
-    let base = steps::own_base(&words, own);
+    let base = steps::own_base(words, own);
     dots::Dot {
         actor: own,
         counter: dots::Counter { number: base + 1 },
@@ -124,22 +122,22 @@ fn next_dot(state: calls::State) -> dots::Dot
 }
 
 // The refusals 1, 5, 6, 8 and 9 of an own add.
-fn add_early(state: calls::State, store: &[u8], label: &[u8], context: &[u8]) -> dots::Answer
-    ensures { λ r. ⌜ r ≡ firstOf (addEarly state (now (store .entry)) (now (label .entry)) (now (context .entry))) ⌝ }
+fn add_early<'a>(
+    own: dots::Actor,
+    name: &'a [u8; 16],
+    len: usize,
+    words: &'a [u64; 32],
+    tombstone: &'a [u8; 1152],
+    count: usize,
+    used: usize,
+    store: &[u8],
+    label: &[u8],
+    context: &[u8],
+) -> dots::Answer
+    ensures { λ r. ⌜ r ≡ firstOf (addEarly (stateFrom own (now (name .entry)) len (now (words .entry)) (now (tombstone .entry)) count used) (now (store .entry)) (now (label .entry)) (now (context .entry))) ⌝ }
 {
-    let words = state.clock.words;
-    let own = state.actor;
-    let base = steps::own_base(&words, own);
-    let damage = steps::damaged(
-        state.actor,
-        &state.name.bytes,
-        state.name.len,
-        &state.clock.words,
-        &state.tombstone.bytes,
-        state.tombstone.count,
-        state.used,
-        store,
-    );
+    let base = steps::own_base(words, own);
+    let damage = steps::damaged(own, name, len, words, tombstone, count, used, store);
     let named = dots::label_ok(label);
     let bad = steps::context_bad(context);
     let taken = steps::has_next(own, base, context);
@@ -148,22 +146,41 @@ fn add_early(state: calls::State, store: &[u8], label: &[u8], context: &[u8]) ->
 }
 
 // The answer of an own add, for an output of so many bytes.
-fn add_answer(
-    state: calls::State,
+fn add_answer<'a>(
+    own: dots::Actor,
+    name: &'a [u8; 16],
+    len: usize,
+    words: &'a [u64; 32],
+    tombstone: &'a [u8; 1152],
+    count: usize,
+    used: usize,
     store: &[u8],
     label: &[u8],
     context: &[u8],
     room: usize,
 ) -> dots::Answer
-    ensures { λ r. ⌜ Answers room (ownAddRefusals state (now (store .entry)) (now (label .entry)) (now (context .entry))) r ⌝ }
+    requires { ⌜ (length (now name) ≡ 16) × (length (now tombstone) ≡ 1152) ⌝ }
+    ensures { λ r. ⌜ Answers room (ownAddRefusals (stateFrom own (now (name .entry)) len (now (words .entry)) (now (tombstone .entry)) count used) (now (store .entry)) (now (label .entry)) (now (context .entry))) r ⌝ }
 {
-    let early = add_early(state, store, label, context);
+    let early = add_early(
+        own,
+        name,
+        len,
+        words,
+        tombstone,
+        count,
+        used,
+        store,
+        label,
+        context,
+    );
     if dots::number_of(early) != 0 {
         return early;
     }
-    let dot = next_dot(state);
-    let short = room < state.name.len + label.len() + context.len() + 18;
-    steps::add_late(state, store.len(), label, context, dot, short)
+    let dot = next_dot(own, words);
+    let short = room < len + label.len() + context.len() + 18;
+    let crowded = store.len() < used + (len + label.len() + 15);
+    steps::add_late(words, tombstone, count, context, dot, crowded, short)
 }
 
 // Writes the add message, and applies the add.
@@ -178,12 +195,28 @@ fn add_done(
     ensures { λ r. ⌜ Added state (now (store .entry)) (now (label .entry)) (now (context .entry)) (now (out .entry)) (now (store .exit)) (now (out .exit)) r ⌝ }
 {
     let name = state.name.bytes;
-    let dot = next_dot(state);
+    let seen = state.clock.words;
+    let dot = next_dot(state.actor, &seen);
     let written = put_add(&name, state.name.len, label, dot, context, out);
-    let next = steps::apply_add(state, store, label, context, dot);
+    let used = steps::put_entry(store, state.used, &name, state.name.len, label, dot);
+    let mut words = state.clock.words;
+    let mut bytes = state.tombstone.bytes;
+    let count = steps::tombstone_with_context(&seen, &mut bytes, state.tombstone.count, context);
+    clock::join_with_dot(&mut words, context, dot);
+    let actor = state.actor;
+    let named = state.name;
     calls::Outcome {
         answer: dots::Answer::Done,
-        state: next,
+        state: calls::State {
+            actor: actor,
+            name: named,
+            clock: calls::Clock { words: words },
+            tombstone: calls::Tombstone {
+                bytes: bytes,
+                count: count,
+            },
+            used: used,
+        },
         written: written,
     }
 }
@@ -198,7 +231,19 @@ pub fn own_add(
 ) -> calls::Outcome
     ensures { λ r. ⌜ Leaves (ownAddResult state (now (store .entry)) (now (label .entry)) (now (context .entry)) (now (out .entry))) (now (store .exit)) (now (out .exit)) r ⌝ }
 {
-    let answer = add_answer(state, store, label, context, out.len());
+    let answer = add_answer(
+        state.actor,
+        &state.name.bytes,
+        state.name.len,
+        &state.clock.words,
+        &state.tombstone.bytes,
+        state.tombstone.count,
+        state.used,
+        store,
+        label,
+        context,
+        out.len(),
+    );
     if dots::number_of(answer) != 0 {
         return calls::Outcome {
             answer: answer,
@@ -212,37 +257,58 @@ pub fn own_add(
 // ---- own remove
 
 // The refusals 1, 6 and 8 of an own remove.
-fn remove_early(state: calls::State, store: &[u8], context: &[u8]) -> dots::Answer
-    ensures { λ r. ⌜ r ≡ firstOf (earlyRefusals (isDamaged state (now (store .entry))) false (badContext (now (context .entry))) (ownAhead state (now (store .entry)) (dotsOf (now (context .entry)))) false) ⌝ }
+fn remove_early<'a>(
+    own: dots::Actor,
+    name: &'a [u8; 16],
+    len: usize,
+    words: &'a [u64; 32],
+    tombstone: &'a [u8; 1152],
+    count: usize,
+    used: usize,
+    store: &[u8],
+    context: &[u8],
+) -> dots::Answer
+    ensures { λ r. ⌜ r ≡ firstOf (earlyRefusals (isDamaged (stateFrom own (now (name .entry)) len (now (words .entry)) (now (tombstone .entry)) count used) (now (store .entry))) false (badContext (now (context .entry))) (ownAhead (stateFrom own (now (name .entry)) len (now (words .entry)) (now (tombstone .entry)) count used) (now (store .entry)) (dotsOf (now (context .entry)))) false) ⌝ }
 {
-    let words = state.clock.words;
-    let own = state.actor;
-    let base = steps::own_base(&words, own);
-    let damage = steps::damaged(
-        state.actor,
-        &state.name.bytes,
-        state.name.len,
-        &state.clock.words,
-        &state.tombstone.bytes,
-        state.tombstone.count,
-        state.used,
-        store,
-    );
+    let base = steps::own_base(words, own);
+    let damage = steps::damaged(own, name, len, words, tombstone, count, used, store);
     let dot = steps::context_bad(context);
     let ahead = steps::own_ahead(own, base, context);
     steps::early_answer(damage, false, dot, ahead, false)
 }
 
 // The answer of an own remove, for an output of so many bytes.
-fn remove_answer(state: calls::State, store: &[u8], context: &[u8], room: usize) -> dots::Answer
-    ensures { λ r. ⌜ Answers room (ownRemoveRefusals state (now (store .entry)) (now (context .entry))) r ⌝ }
+fn remove_answer<'a>(
+    own: dots::Actor,
+    name: &'a [u8; 16],
+    len: usize,
+    words: &'a [u64; 32],
+    tombstone: &'a [u8; 1152],
+    count: usize,
+    used: usize,
+    store: &[u8],
+    context: &[u8],
+    room: usize,
+) -> dots::Answer
+    requires { ⌜ (length (now name) ≡ 16) × (length (now tombstone) ≡ 1152) ⌝ }
+    ensures { λ r. ⌜ Answers room (ownRemoveRefusals (stateFrom own (now (name .entry)) len (now (words .entry)) (now (tombstone .entry)) count used) (now (store .entry)) (now (context .entry))) r ⌝ }
 {
-    let early = remove_early(state, store, context);
+    let early = remove_early(
+        own,
+        name,
+        len,
+        words,
+        tombstone,
+        count,
+        used,
+        store,
+        context,
+    );
     if dots::number_of(early) != 0 {
         return early;
     }
-    let short = room < state.name.len + context.len() + 8;
-    steps::remove_late(state, context, short)
+    let short = room < len + context.len() + 8;
+    steps::remove_late(words, tombstone, count, context, short)
 }
 
 // Applies a context and writes the remove message.
@@ -252,10 +318,25 @@ fn remove_done(state: calls::State, context: &[u8], out: &mut [u8]) -> calls::Ou
 {
     let name = state.name.bytes;
     let written = put_remove(&name, state.name.len, context, out);
-    let next = steps::removed_state(state, context);
+    let seen = state.clock.words;
+    let mut words = state.clock.words;
+    let mut bytes = state.tombstone.bytes;
+    let count = steps::tombstone_with_context(&seen, &mut bytes, state.tombstone.count, context);
+    clock::join_context(&mut words, context);
+    let actor = state.actor;
+    let named = state.name;
     calls::Outcome {
         answer: dots::Answer::Done,
-        state: next,
+        state: calls::State {
+            actor: actor,
+            name: named,
+            clock: calls::Clock { words: words },
+            tombstone: calls::Tombstone {
+                bytes: bytes,
+                count: count,
+            },
+            used: state.used,
+        },
         written: written,
     }
 }
@@ -269,7 +350,18 @@ pub fn own_remove(
 ) -> calls::Outcome
     ensures { λ r. ⌜ Leaves (ownRemoveResult state (now (store .entry)) (now (context .entry)) (now (out .entry))) (now (store .entry)) (now (out .exit)) r ⌝ }
 {
-    let answer = remove_answer(state, store, context, out.len());
+    let answer = remove_answer(
+        state.actor,
+        &state.name.bytes,
+        state.name.len,
+        &state.clock.words,
+        &state.tombstone.bytes,
+        state.tombstone.count,
+        state.used,
+        store,
+        context,
+        out.len(),
+    );
     if dots::number_of(answer) != 0 {
         return calls::Outcome {
             answer: answer,
@@ -320,7 +412,16 @@ fn taken_add(
     let base = steps::own_base(&words, own);
     let other = other_set(&name, state.name.len, given);
     let ahead = steps::own_ahead(own, base, context);
-    let late = steps::add_late(state, size, label, context, dot, false);
+    let crowded = size < state.used + (state.name.len + label.len() + 15);
+    let late = steps::add_late(
+        &state.clock.words,
+        &state.tombstone.bytes,
+        state.tombstone.count,
+        context,
+        dot,
+        crowded,
+        false,
+    );
     taken_answer(other, steps::dot_ahead(own, base, dot) | ahead, late)
 }
 
@@ -335,7 +436,13 @@ fn taken_remove(state: calls::State, given: &[u8], context: &[u8]) -> dots::Answ
     let base = steps::own_base(&words, own);
     let other = other_set(&name, state.name.len, given);
     let ahead = steps::own_ahead(own, base, context);
-    let late = steps::remove_late(state, context, false);
+    let late = steps::remove_late(
+        &state.clock.words,
+        &state.tombstone.bytes,
+        state.tombstone.count,
+        context,
+        false,
+    );
     taken_answer(other, ahead, late)
 }
 
@@ -564,12 +671,11 @@ pub fn lookup<'a>(
 
 // ---- compaction
 
-// Drops the dead keys of an undamaged state's store, and their dots from its tombstone. Returns the state left.
-fn compact_whole(state: calls::State, store: &mut [u8]) -> calls::State
+// Drops the dead keys of an undamaged state's store, and their dots from its tombstone.
+fn compact_done(state: calls::State, store: &mut [u8]) -> calls::Outcome
     requires { ⌜ (isDamaged state (now store) ≡ false) × (length (state .name .bytes) ≡ 16) × (length (state .tombstone .bytes) ≡ 1152) ⌝ }
-    ensures { λ r. ⌜ (r ≡ stateOf state (compacted clockModel (view state (now (store .entry))))) × (now (store .exit) ≡ storeOf state (now (store .entry)) (compacted clockModel (view state (now (store .entry))))) ⌝ }
+    ensures { λ r. ⌜ Leaves (compactDone state (now (store .entry))) (now (store .exit)) [] r ⌝ }
 {
-    let clock = state.clock;
     let mut bytes = state.tombstone.bytes;
     let left = compaction::compact(
         state.name.len,
@@ -578,11 +684,23 @@ fn compact_whole(state: calls::State, store: &mut [u8]) -> calls::State
         &mut bytes,
         state.tombstone.count,
     );
-    let tombstone = calls::Tombstone {
-        bytes: bytes,
-        count: left.count,
-    };
-    steps::state_with(state, clock, tombstone, left.used)
+    let actor = state.actor;
+    let named = state.name;
+    let words = state.clock.words;
+    calls::Outcome {
+        answer: dots::Answer::Done,
+        state: calls::State {
+            actor: actor,
+            name: named,
+            clock: calls::Clock { words: words },
+            tombstone: calls::Tombstone {
+                bytes: bytes,
+                count: left.count,
+            },
+            used: left.used,
+        },
+        written: 0,
+    }
 }
 
 // Drops the keys whose dots are in the tombstone.
@@ -605,10 +723,5 @@ pub fn compact(state: calls::State, store: &mut [u8]) -> calls::Outcome
             written: 0,
         };
     }
-    let left = compact_whole(state, store);
-    calls::Outcome {
-        answer: dots::Answer::Done,
-        state: left,
-        written: 0,
-    }
+    compact_done(state, store)
 }

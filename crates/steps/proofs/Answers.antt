@@ -85,6 +85,11 @@ ahead-is st store base ds e = ap (λ (b : ℕ). any (aheadOf (st .actor) b) ds) 
 pub with-parts : (st : State) (words words′ : List ℕ) (t t′ : Tombstone) (used : ℕ) (r : State) → words ≡ words′ → t ≡ t′ → r ≡ stateWith st words t used → r ≡ stateWith st words′ t′ used
 with-parts st words words′ t t′ used r e f g = g ∙ rw (e, f)
 
+-- a state made of parts of another and of its own clock and tombstone
+pub parts-made : (st : State) (words words′ : List ℕ) (bytes : Bytes) (count used : ℕ) (t : Tombstone) → words ≡ words′ → _≡_ {A = Tombstone} (record { bytes = bytes; count = count }) t
+    → _≡_ {A = State} (record { actor = st .actor; name = st .name; clock = record { words = words }; tombstone = record { bytes = bytes; count = count }; used = used }) (stateWith st words′ t used)
+parts-made st words words′ bytes count used t e f = with-parts st words words′ (record { bytes = bytes; count = count }) t used _ e f refl
+
 -- ---- what the first refusals leave
 
 pub state-kept : (st : State) (store : Bytes) → damaged st store ≡ false → stateOk st ≡ true

@@ -16,10 +16,12 @@ use Rattle.dots.specs.Dots.{compareDots, dotOk, ascendingDots}
 use Rattle.dots.specs.Wire.{dotAt, dotsAt, dotsBytes, dotsOf}
 use Rattle.dots.proofs.Orders.{dots}
 use Rattle.dots.proofs.Rules.{ascending-valid, ascending-up, up-ascending}
-use Rattle.dots.proofs.Loops.{left, dots-next}
+use Rattle.dots.proofs.Loops.{left, dots-next, length-dotsAt}
 use Rattle.dots.proofs.RoundTrip.{length-dots}
 use Rattle.clock.specs.Clock.{sees}
-use Rattle.calls.specs.Effect.{padded}
+use Rattle.contexts.proofs.Places.{dots-front}
+use Rattle.calls.specs.declared.Tombstone.{Tombstone}
+use Rattle.calls.specs.Effect.{padded, tombstoneOf}
 use Rattle.steps.specs.Tests.{Padded, ContextFits}
 use Rattle.calls.proofs.Reading.{tombstone-read}
 
@@ -27,6 +29,15 @@ pub drop-zeros : (k n : ℕ) → drop k (replicate {A = ℕ} n 0) ≡ replicate 
 drop-zeros zero n = rw sub-zero
 drop-zeros (suc k) zero = rw zero-sub
 drop-zeros (suc k) (suc n) = drop-zeros k n ∙ rw suc-sub-suc
+
+-- padded bytes of a list of dots, and as many, are its tombstone
+pub tombstone-made : (bytes : List ℕ) (count : ℕ) (ds : List Dot) → Padded bytes count → dotsOf (take (count * 9) bytes) ≡ ds → _≡_ {A = Tombstone} (record { bytes = bytes; count = count }) (tombstoneOf ds)
+tombstone-made bytes count ds p e =
+    let size = p .tomb .size in
+    let few = p .tomb .few in
+    let many : count ≡ length ds = sym (ap length (sym e) ∙ ap length (dots-front bytes count (omega arith)) ∙ length-dotsAt count bytes 0) in
+    let same : bytes ≡ padded 1152 (dotsBytes ds) = p .zeros ∙ ap (λ (l : List Dot). padded 1152 (dotsBytes l)) e in
+    λ i. record { bytes = same i; count = many i }
 
 -- ---- dots at the front of the bytes, and zeros
 

@@ -71,16 +71,24 @@ earlyRefusals damage name dot ahead end = (damage, Damaged) ∷ (name, BadName) 
 abbrev pub lateRefusals : Bool → Bool → Bool → Bool → Refusals
 lateRefusals far tombstone store output = (far, TooFar) ∷ (tombstone, TombstoneFull) ∷ (store, StoreFull) ∷ (output, OutputShort) ∷ []
 
--- the later ones of an add and of a remove, own or taken in, for a store of so many bytes; short says whether the output is shorter than the message
+-- the later ones of an add and of a remove, own or taken in, over the clock's words and the tombstone's dots; full says whether the store has no room for
+-- the add's key, short whether the output is shorter than the message
+abbrev pub addTests : List ℕ → List Dot → Dot → Context → Bool → Bool → Refusals
+addTests words tombstone d context full short =
+    lateRefusals (not (near windowWidth words (d ∷ context)))
+    (ltb tombstoneMost (length (insertAll compareDots (keep (sees words) context) tombstone)))
+    (not (sees words d) && full) short
+
+abbrev pub removeTests : List ℕ → List Dot → Context → Bool → Refusals
+removeTests words tombstone context short =
+    lateRefusals (not (near windowWidth words context)) (ltb tombstoneMost (length (insertAll compareDots (keep (sees words) context) tombstone))) false short
+
+-- those of a state, for a store of so many bytes
 abbrev pub addLate : State → ℕ → Label → Dot → Context → Bool → Refusals
-addLate st size label d context short =
-    lateRefusals (not (near windowWidth (st .clock .words) (d ∷ context)))
-    (ltb tombstoneMost (length (nextTombstone st context)))
-    (not (sees (st .clock .words) d) && ltb size (st .used + (st .name .len + length label + 15))) short
+addLate st size label d context short = addTests (st .clock .words) (tombstoneDots st) d context (ltb size (st .used + (st .name .len + length label + 15))) short
 
 abbrev pub removeLate : State → Context → Bool → Refusals
-removeLate st context short =
-    lateRefusals (not (near windowWidth (st .clock .words) context)) (ltb tombstoneMost (length (nextTombstone st context))) false short
+removeLate st context short = removeTests (st .clock .words) (tombstoneDots st) context short
 
 -- a state with another clock, tombstone and used length
 abbrev pub stateWith : State → List ℕ → Tombstone → ℕ → State

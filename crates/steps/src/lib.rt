@@ -21,7 +21,7 @@ ghost use Rattle.store.specs.Place.{insertedEntry};
 ghost use Rattle.store.specs.Valid.{storeOk};
 ghost use Rattle.calls.specs.Damage.{zeroFrom, tombstoneMost, damaged as isDamaged};
 ghost use Rattle.calls.specs.State.{tombstoneDots};
-ghost use Rattle.steps.specs.Tests.{stateOk, stateFrom, stateWith, aheadOf, joinsTombstone, Tombstoned, Padded, ContextFits, earlyRefusals, lateRefusals, addLate, removeLate, MayOffer, MayJoin, MayApply, applied};
+ghost use Rattle.steps.specs.Tests.{stateOk, stateFrom, stateWith, aheadOf, joinsTombstone, Tombstoned, Padded, ContextFits, earlyRefusals, lateRefusals, addTests, removeTests, MayJoin, MayApply, applied};
 ghost use Rattle.calls.specs.Refusals.{badContext};
 ghost use Rattle.calls.specs.Effect.{tombstoneOf, stateOf, storeOf};
 
@@ -221,7 +221,12 @@ pub fn context_bad(context: &[u8]) -> bool
 }
 
 // Refusal 11: whether the tombstone would pass 128 dots.
-fn tombstone_full(words: &[u64; 32], bytes: &[u8], count: usize, context: &[u8]) -> bool
+fn tombstone_full<'a, 'b>(
+    words: &'a [u64; 32],
+    bytes: &'a [u8],
+    count: usize,
+    context: &'b [u8],
+) -> bool
     requires { ⌜ Tombstoned (now bytes) count × ContextFits (now context) ⌝ }
     ensures { λ r. ⌜ r ≡ ltb tombstoneMost (length (insertAll compareDots (keep (sees (now (words .entry))) (dotsOf (now (context .entry)))) (dotsOf (take (count * 9) (now (bytes .entry)))))) ⌝ }
 {
@@ -269,36 +274,38 @@ fn late_answer(far: bool, tombstone: bool, store: bool, output: bool) -> dots::A
 }
 
 // The refusals 10, 11 and 13 of a remove; short says whether the output is shorter than its message.
-pub fn remove_late(state: calls::State, context: &[u8], short: bool) -> dots::Answer
-    requires { ⌜ (stateOk state ≡ true) × ContextFits (now context) ⌝ }
-    ensures { λ r. ⌜ r ≡ firstOf (removeLate state (dotsOf (now (context .entry))) short) ⌝ }
+pub fn remove_late<'a, 'b>(
+    words: &'a [u64; 32],
+    tombstone: &'a [u8; 1152],
+    count: usize,
+    context: &'b [u8],
+    short: bool,
+) -> dots::Answer
+    requires { ⌜ Offer windowWidth (now words) (dotsOf (now context)) × Tombstoned (now tombstone) count × ContextFits (now context) ⌝ }
+    ensures { λ r. ⌜ r ≡ firstOf (removeTests (now (words .entry)) (dotsOf (take (count * 9) (now (tombstone .entry)))) (dotsOf (now (context .entry))) short) ⌝ }
 {
-    let words = state.clock.words;
-    let bytes = state.tombstone.bytes;
-    let close = clock::near_context(&words, context);
-    let full = tombstone_full(&words, &bytes, state.tombstone.count, context);
+    let close = clock::near_context(words, context);
+    let full = tombstone_full(words, tombstone, count, context);
     late_answer(!close, full, false, short)
 }
 
-// The refusals 10 to 13 of an add, for a store of so many bytes; short says whether the output is shorter than its message.
-pub fn add_late(
-    state: calls::State,
-    size: usize,
-    label: &[u8],
-    context: &[u8],
+// The refusals 10 to 13 of an add; crowded says whether the store has no room for its key, short whether the output is shorter than its message.
+pub fn add_late<'a, 'b>(
+    words: &'a [u64; 32],
+    tombstone: &'a [u8; 1152],
+    count: usize,
+    context: &'b [u8],
     dot: dots::Dot,
+    crowded: bool,
     short: bool,
 ) -> dots::Answer
-    requires { ⌜ MayOffer state (now label) (now context) dot ⌝ }
-    ensures { λ r. ⌜ r ≡ firstOf (addLate state size (now (label .entry)) dot (dotsOf (now (context .entry))) short) ⌝ }
+    requires { ⌜ OfferWith windowWidth (now words) (now context) dot × Tombstoned (now tombstone) count × ContextFits (now context) ⌝ }
+    ensures { λ r. ⌜ r ≡ firstOf (addTests (now (words .entry)) (dotsOf (take (count * 9) (now (tombstone .entry)))) dot (dotsOf (now (context .entry))) crowded short) ⌝ }
 {
-    let words = state.clock.words;
-    let bytes = state.tombstone.bytes;
-    let full = tombstone_full(&words, &bytes, state.tombstone.count, context);
-    let close = clock::near_with_dot(&words, context, dot);
-    let seen = clock::sees(&words, dot);
-    let room = size < state.used + (state.name.len + label.len() + 15);
-    late_answer(!close, full, !seen & room, short)
+    let full = tombstone_full(words, tombstone, count, context);
+    let close = clock::near_with_dot(words, context, dot);
+    let seen = clock::sees(words, dot);
+    late_answer(!close, full, !seen & crowded, short)
 }
 
 // ---- applying a context
@@ -320,7 +327,7 @@ fn tombstone_with_dot(
 }
 
 // Puts the dots of a context that were seen into the tombstone. Returns how many dots it then has.
-fn tombstone_with_context(
+pub fn tombstone_with_context(
     words: &[u64; 32],
     bytes: &mut [u8; 1152],
     count: usize,
@@ -425,7 +432,7 @@ fn added_state(state: calls::State, context: &[u8], dot: dots::Dot, used: usize)
 }
 
 // Puts the key of an entry in its place, for a set whose name is the first len bytes.
-fn put_entry(
+pub fn put_entry(
     store: &mut [u8],
     used: usize,
     name: &[u8],

@@ -17,8 +17,8 @@ returns c =
     let s = c .before .before .before .before .before .before .before .before .before in
     compact-refused (s .args .t1) (s .args .store .now) (sym (c .before .damaged .ensures) ∙ c .if1 .taken)
 
-compact-whole-requires : tie.Need-compact-whole-requires
-compact-whole-requires c κs =
+compact-done-requires : tie.Need-compact-done-requires
+compact-done-requires c κs =
     let st = c .before .before .before .before .before .before .before .before .before .before .args .t1 in
     let named : length (st .name .bytes) ≡ 16 = search needs in
     let size : length (st .tombstone .bytes) ≡ 1152 = search needs in
@@ -31,10 +31,9 @@ returns-2 : tie.Need-returns-2
 returns-2 c =
     let s = c .before .before .before .before .before .before .before .before .before .before .before .before .before in
     let tested = c .before .before .before .before in
-    let call = c .before .before .compact-whole .ensures in
-    compact-done (s .args .t1) (s .args .store .now) _ _ (sym (tested .before .damaged .ensures) ∙ tested .if1 .left) (call .0) (call .1)
+    compact-done (s .args .t1) (s .args .store .now) _ _ (sym (tested .before .damaged .ensures) ∙ tested .if1 .left) (c .before .before .compact-done .ensures)
 
 pub compact-spec : {M : Type 1} → statement M
 compact-spec =
     tie.close
-    (tie.spec damaged-requires same-length returns compact-whole-requires same-length-2 returns-2)
+    (tie.spec damaged-requires same-length returns compact-done-requires same-length-2 returns-2)

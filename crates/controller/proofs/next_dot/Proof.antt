@@ -9,11 +9,16 @@ use Rattle.controller.proofs.next_dot.Tie as tie
 own-base-requires : tie.Need-own-base-requires
 own-base-requires c κs = search needs
 
-add-t6 : tie.Need-add-t6
-add-t6 c = search needs
+add-t4 : tie.Need-add-t4
+add-t4 c = search needs
 
 returns : tie.Need-returns
-returns c = ap (λ (b : ℕ). dotOf (c .before .before .before .before .args .state .actor) (b + 1)) (c .own-base .ensures)
+returns c = ap (λ (b : ℕ). dotOf (c .before .args .own) (b + 1)) (c .own-base .ensures)
 
 pub next-dot-spec : {M : Type 1} → statement M
-next-dot-spec = tie.close (tie.spec own-base-requires add-t6 returns)
+next-dot-spec =
+    tie.close
+    (tie.spec
+    own-base-requires
+    add-t4
+    returns)

@@ -18,10 +18,10 @@ same-length : tie.Need-same-length
 same-length c = search needs
 
 returns : tie.Need-returns
-returns c = let s = c .before .before .before .before .before .before .before .before in own-add-refused (s .args .state) (s .args .store .now) (s .args .label .now) (s .args .context .now) (s .args .out .now) _ _ (c .before .before .add-answer .ensures) (c .before .number-of .ensures) (c .if1 .taken)
+returns c = let s = c .before .before .before .before .before .before .before .before .before .before .before .before .before in own-add-refused (s .args .t1) (s .args .store .now) (s .args .label .now) (s .args .context .now) (s .args .out .now) _ _ (c .before .before .add-answer .ensures) (c .before .number-of .ensures) (c .if1 .taken)
 
 add-done-requires : tie.Need-add-done-requires
-add-done-requires c κs = let s = c .before .before .before .before .before .before .before .before .before .before in let size : length (s .args .state .name .bytes) ≡ 16 = length-unmapped ℕ (s .args .state .name .bytes) 16 (s .good .0 .1 .1 .1 .0 .1 .1 .0 .1 .0 .1) in let words : length (s .args .state .clock .words) ≡ 32 = length-unmapped ℕ (s .args .state .clock .words) 32 (s .good .0 .1 .1 .1 .1 .0 .1 .1 .0 .1 .0 .1) in may-add (s .args .state) (s .args .store .now) (s .args .label .now) (s .args .context .now) (s .args .out .now) _ _ (c .before .before .before .before .add-answer .ensures) (c .before .before .before .number-of .ensures) (c .before .before .if1 .left) size words
+add-done-requires c κs = let s = c .before .before .before .before .before .before .before .before .before .before .before .before .before .before .before in let size : length (s .args .t1 .name .bytes) ≡ 16 = length-unmapped ℕ (s .args .t1 .name .bytes) 16 (s .good .0 .1 .1 .1 .0 .1 .1 .0 .1 .0 .1) in let words : length (s .args .t1 .clock .words) ≡ 32 = length-unmapped ℕ (s .args .t1 .clock .words) 32 (s .good .0 .1 .1 .1 .1 .0 .1 .1 .0 .1 .0 .1) in may-add (s .args .t1) (s .args .store .now) (s .args .label .now) (s .args .context .now) (s .args .out .now) _ _ (c .before .before .before .before .add-answer .ensures) (c .before .before .before .number-of .ensures) (c .before .before .if1 .left) size words
 
 same-length-2 : tie.Need-same-length-2
 same-length-2 c = search needs
@@ -30,7 +30,7 @@ same-length-3 : tie.Need-same-length-3
 same-length-3 c = search needs
 
 returns-2 : tie.Need-returns-2
-returns-2 c = let s = c .before .before .before .before .before .before .before .before .before .before .before .before .before .before .before in own-add-done (s .args .state) (s .args .store .now) (s .args .label .now) (s .args .context .now) (s .args .out .now) _ _ (c .before .before .before .before .before .before .before .before .before .add-answer .ensures) (c .before .before .before .before .before .before .before .before .number-of .ensures) (c .before .before .before .before .before .before .before .if1 .left) _ _ _ (c .before .before .before .before .add-done .ensures)
+returns-2 c = let s = c .before .before .before .before .before .before .before .before .before .before .before .before .before .before .before .before .before .before .before .before in own-add-done (s .args .t1) (s .args .store .now) (s .args .label .now) (s .args .context .now) (s .args .out .now) _ _ (c .before .before .before .before .before .before .before .before .before .add-answer .ensures) (c .before .before .before .before .before .before .before .before .number-of .ensures) (c .before .before .before .before .before .before .before .if1 .left) _ _ _ (c .before .before .before .before .add-done .ensures)
 
 pub own-add-spec : {M : Type 1} → statement M
 own-add-spec =

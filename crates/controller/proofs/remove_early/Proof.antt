@@ -1,7 +1,8 @@
 -- Each test is its definition.
-use Rattle.steps.proofs.Answers.{ahead-is}
 use mathlib.Core.Path.{_∙_}
 use Rattle.dots.specs.Wire.{dotsOf}
+use Rattle.steps.specs.Tests.{stateFrom}
+use Rattle.steps.proofs.Answers.{ahead-is}
 use borrow.Author.Needs.{needs}
 use Rattle.controller.proofs.remove_early.Statement.{statement}
 use Rattle.controller.proofs.remove_early.Tie as tie
@@ -22,7 +23,10 @@ early-answer-requires : tie.Need-early-answer-requires
 early-answer-requires c κs = search needs
 
 returns : tie.Need-returns
-returns c = let s = c .before .before .before .before .before .before .before .before .before .before .before .before .before .before .before in c .early-answer .ensures ∙ rw (c .before .before .before .damaged .ensures, c .before .before .context-bad .ensures, c .before .own-ahead .ensures, ahead-is (s .args .t1) (s .args .store .now) _ (dotsOf (s .args .context .now)) (c .before .before .before .before .before .before .before .before .before .own-base .ensures))
+returns c =
+    let s = c .before .before .before .before .before .before .before in
+    let st = stateFrom (s .args .own) (s .args .name .now) (s .args .len) (s .args .words .now) (s .args .tombstone .now) (s .args .count) (s .args .used) in
+    c .early-answer .ensures ∙ rw (c .before .before .before .damaged .ensures, c .before .before .context-bad .ensures, c .before .own-ahead .ensures, ahead-is st (s .args .store .now) _ (dotsOf (s .args .context .now)) (c .before .before .before .before .own-base .ensures))
 
 pub remove-early-spec : {M : Type 1} → statement M
 remove-early-spec =

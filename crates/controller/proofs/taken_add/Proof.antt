@@ -1,5 +1,5 @@
 -- Each test is its definition; the add's own dot is offered too.
-use Rattle.steps.proofs.Answers.{kept}
+use Rattle.steps.proofs.Answers.{kept, label-short, tombstoned, offer-with}
 use native.Mathlib.Omega.{arith}
 use Rattle.controller.proofs.TakeIn.{add-judged}
 use Prim.Native.Nat.{ℕ}
@@ -17,13 +17,45 @@ slice-aggregate-other-set : tie.Need-slice-aggregate-other-set
 slice-aggregate-other-set c = search needs
 
 other-set-requires : tie.Need-other-set-requires
-other-set-requires c κs = let s = c .before .before .before .before .before .before .before .before .before in let size : length (s .args .state .name .bytes) ≡ 16 = length-unmapped ℕ (s .args .state .name .bytes) 16 (s .good .0 .1 .1 .1 .0 .1 .1 .0 .1 .0 .1) in let short = kept (s .args .state) (s .pre .state-ok) .short in omega arith
+other-set-requires c κs = let s = c .before .before .before .before .before .before .before .before .before in let size : length (s .args .t1 .name .bytes) ≡ 16 = length-unmapped ℕ (s .args .t1 .name .bytes) 16 (s .good .0 .1 .1 .1 .0 .1 .1 .0 .1 .0 .1) in let short = kept (s .args .t1) (s .pre .state-ok) .short in omega arith
 
 own-ahead-requires : tie.Need-own-ahead-requires
 own-ahead-requires c κs = search needs
 
+add-crowded : tie.Need-add-crowded
+add-crowded c =
+    let s = c .before .before .before .before .before .before .before .before .before .before .before in
+    let st = s .args .t1 in
+    let short = kept st (s .pre .state-ok) .short in
+    let most = label-short _ (s .pre .labelled) in
+    let small = s .pre .small in
+    omega arith
+
+add-crowded-2 : tie.Need-add-crowded-2
+add-crowded-2 c =
+    let s = c .before .before .before .before .before .before .before .before .before .before .before in
+    let st = s .args .t1 in
+    let short = kept st (s .pre .state-ok) .short in
+    let most = label-short _ (s .pre .labelled) in
+    let small = s .pre .small in
+    omega arith
+
+add-crowded-3 : tie.Need-add-crowded-3
+add-crowded-3 c =
+    let s = c .before .before .before .before .before .before .before .before .before .before .before in
+    let st = s .args .t1 in
+    let short = kept st (s .pre .state-ok) .short in
+    let most = label-short _ (s .pre .labelled) in
+    let small = s .pre .small in
+    omega arith
+
 add-late-requires : tie.Need-add-late-requires
-add-late-requires c κs = c .before .before .before .before .before .before .before .before .before .before .before .pre
+add-late-requires c κs =
+    let s = c .before .before .before .before .before .before .before .before .before .before .before .before .before .before in
+    let st = s .args .t1 in
+    let bytes : length (st .tombstone .bytes) ≡ 1152 = length-unmapped ℕ (st .tombstone .bytes) 1152 (s .good .0 .1 .1 .1 .1 .1 .0 .1 .1 .0 .1 .0 .1) in
+    let held = kept st (s .pre .state-ok) in
+    (offer-with st held (s .args .context .now) (s .args .dot) (s .pre .fits) (s .pre .dot-ok) (s .pre .new), tombstoned st held bytes, s .pre .fits)
 
 dot-ahead-requires : tie.Need-dot-ahead-requires
 dot-ahead-requires c κs = search needs
@@ -32,7 +64,7 @@ taken-answer-requires : tie.Need-taken-answer-requires
 taken-answer-requires c κs = search needs
 
 returns : tie.Need-returns
-returns c = let s = c .before .before .before .before .before .before .before .before .before .before .before .before .before .before in add-judged (s .args .state) (s .args .given .now) (s .args .context .now) _ (c .before .before .before .before .before .before .own-base .ensures) (s .args .size) (s .args .label .now) (s .args .dot) _ _ _ _ _ (c .before .before .before .before .other-set .ensures) (c .before .dot-ahead .ensures) (c .before .before .before .own-ahead .ensures) (c .before .before .add-late .ensures) (c .taken-answer .ensures)
+returns c = let s = c .before .before .before .before .before .before .before .before .before .before .before .before .before .before .before .before .before in add-judged (s .args .t1) (s .args .given .now) (s .args .context .now) _ (c .before .before .before .before .before .before .before .before .before .own-base .ensures) (s .args .size) (s .args .label .now) (s .args .dot) _ _ _ _ _ (c .before .before .before .before .before .before .before .other-set .ensures) (c .before .dot-ahead .ensures) (c .before .before .before .before .before .before .own-ahead .ensures) (c .before .before .add-late .ensures) (c .taken-answer .ensures)
 
 pub taken-add-spec : {M : Type 1} → statement M
 taken-add-spec =
@@ -42,6 +74,9 @@ taken-add-spec =
     slice-aggregate-other-set
     other-set-requires
     own-ahead-requires
+    add-crowded
+    add-crowded-2
+    add-crowded-3
     add-late-requires
     dot-ahead-requires
     taken-answer-requires
