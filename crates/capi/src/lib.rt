@@ -196,7 +196,7 @@ pub extern "C" fn ptl_own_add(
     if state.len() != STATE_SIZE {
         return 1;
     }
-    let done = controller::own_add(unpack(state), store, label, context, out);
+    let done = own::own_add(unpack(state), store, label, context, out);
     *written = done.written;
     let answer = done.answer;
     let next = done.state;
@@ -219,7 +219,7 @@ pub extern "C" fn ptl_own_remove(
     if state.len() != STATE_SIZE {
         return 1;
     }
-    let done = controller::own_remove(unpack(state), store, context, out);
+    let done = own::own_remove(unpack(state), store, context, out);
     *written = done.written;
     let answer = done.answer;
     let next = done.state;

@@ -106,7 +106,7 @@ fn add_into(
     out: &mut [u8],
 ) -> calls::State {
     let held = kept::copy(store);
-    let r = controller::own_add(state, store, label, context, out);
+    let r = own::own_add(state, store, label, context, out);
     outcome(case, b", own add: answer ", state, &held, r, store, out);
     r.state
 }
@@ -135,7 +135,7 @@ fn remove_into(
     context: &[u8],
     out: &mut [u8],
 ) -> calls::State {
-    let r = controller::own_remove(state, store, context, out);
+    let r = own::own_remove(state, store, context, out);
     outcome(case, b", own remove: answer ", state, store, r, store, out);
     r.state
 }

@@ -105,8 +105,8 @@ fn drop_dots(bytes: &mut [u8], marks: &[u8; 128]) -> usize
     to / 9
 }
 
-// Compaction, with the tombstone's bytes as a slice.
-fn compact_in(
+// Drops the keys whose dots are in the tombstone, and takes the dots of dropped keys out of it. What is freed at either end becomes 0.
+pub fn compact(
     n: usize,
     store: &mut [u8],
     used: usize,
@@ -132,21 +132,4 @@ fn compact_in(
         used: left,
         count: dots_left,
     }
-}
-
-// Drops the keys whose dots are in the tombstone, and takes the dots of dropped keys out of it. What is freed at either end becomes 0.
-pub fn compact(
-    n: usize,
-    store: &mut [u8],
-    used: usize,
-    tombstone: &mut [u8; 1152],
-    count: usize,
-) -> Compacted
-    requires { ⌜ (n ≤ 16) × (used ≤ length (now store)) × (count ≤ 128) × (length (now tombstone) ≡ 1152) × (keysFit n (take used (now store)) ≡ true) × (ascendingDots (dotsOf (take (count * 9) (now tombstone))) ≡ true) ⌝ }
-    ensures { λ r. ⌜ Compacts n used count (now (store .entry)) (now (tombstone .entry)) (now (store .exit)) (now (tombstone .exit)) r ⌝ }
-{
-    if count == 0 {
-        return Compacted { used, count };
-    }
-    compact_in(n, store, used, tombstone, count)
 }

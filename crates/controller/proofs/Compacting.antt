@@ -24,6 +24,7 @@ use Rattle.store.specs.Valid.{keysFit}
 use Rattle.compaction.specs.Compaction.{inPlaceOf, Compacts}
 use Rattle.store.proofs.RoundTrip.{keys-written}
 use Rattle.compaction.proofs.Pieces.{in-place-padded}
+use Rattle.compaction.proofs.Compaction.{none-dropped}
 use Rattle.compaction.proofs.Marks.{keep-shorter}
 use Rattle.compaction.proofs.CompactedEntries.{store-left, used-left, tombstone-left, count-left}
 use Rattle.replica.specs.Machine.{live, droppedDots, compacted, effect}
@@ -31,7 +32,7 @@ use Rattle.calls.specs.declared.State.{State}
 use Rattle.calls.specs.declared.Outcome.{Outcome}
 use Rattle.calls.specs.State.{clockModel, Machine, nameOf, tombstoneDots, usedPart, entries, view}
 use Rattle.calls.specs.Damage.{zeroFrom, stateNameOk, tombstoneOk, damaged}
-use Rattle.calls.specs.Effect.{padded, tombstoneOf, keysPart, stateOf, storeOf}
+use Rattle.calls.specs.Effect.{padded, keysPart, stateOf, storeOf}
 use Rattle.steps.specs.Tests.{stateWith}
 use Rattle.calls.specs.Calls.{refused, compactResult, compactDone}
 use Rattle.calls.specs.Promise.{Leaves}
@@ -141,6 +142,12 @@ module _ (st : State) (store : Bytes) (h : damaged st store ≡ false) (named : 
         (record { answer = Done; state = record { actor = st .actor; name = st .name; clock = record { words = st .clock .words }; tombstone = record { bytes = tombstone′; count = r .count }; used = r .used }; written = 0 })
     unfolding effect
     compact-leaves = record { answered = refl; state-is = state-left; written-is = refl; store-is = compact-store; out-is = refl }
+
+  -- with no dots in the tombstone all stays
+  pub compact-none : st .tombstone .count ≡ 0 → Leaves (compactDone st store) store [] (record { answer = Done; state = st; written = 0 })
+  compact-none e =
+      compact-leaves store (st .tombstone .bytes) (record { used = st .used; count = st .tombstone .count })
+      (none-dropped (st .name .len) (st .used) (st .tombstone .count) store (st .tombstone .bytes) (used-fits st store u) e)
 
 -- ---- the call
 

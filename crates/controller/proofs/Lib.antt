@@ -1,6 +1,4 @@
--- OwnAdd, OwnRemove, TakeIn: these calls. ReadCalls: listing and lookup. Compacting: compaction.
-pub mod OwnAdd
-pub mod OwnRemove
+-- TakeIn: taking in. ReadCalls: listing and lookup. Compacting: compaction.
 pub mod TakeIn
 pub mod ReadCalls
 pub mod Compacting

@@ -36,7 +36,8 @@ use Rattle.calls.specs.declared.Listed.{Listed}
 use Rattle.calls.specs.State.{clockModel, nameOf, tombstoneDots, usedPart, entries, view}
 use Rattle.calls.specs.Damage.{stateNameOk, tombstoneOk, damaged}
 use Rattle.calls.specs.Effect.{putOut}
-use Rattle.calls.specs.Refusals.{outputShort}
+use Rattle.calls.specs.Refusals.{badLabel, outputShort}
+use Rattle.steps.specs.Tests.{earlyRefusals}
 use Rattle.calls.specs.Calls.{refused, listResult, Looked, notLooked, lowerLabels, sameLabel, bytesOf, lookupRefusals, lookupDone, lookupResult}
 use Rattle.calls.specs.Promise.{Lists, LooksUp}
 use Rattle.controller.specs.Reads.{Readable, linesIn, ListsLines}
@@ -141,6 +142,11 @@ part-of-store store r name label used h block offset bytes =
     record { block = block; offset = offset; bytes = bytes ∙ part-of-front (store .now) used (stretchStart name label front) (stretchEnd name label front) fits }
 
 -- the tests of a lookup that passes
+-- the refusals of a lookup as the code tests them
+pub look-is : (st : State) (store label : Bytes) (damage : Bool) (number : ℕ) → damage ≡ damaged st store → number ≡ numberOf (firstOf (earlyRefusals damage (badLabel label) false false false))
+    → number ≡ numberOf (firstOf (lookupRefusals st store label))
+look-is st store label damage number d n = rw d at n
+
 pub may-look : (st : State) (store label : Bytes) (number : ℕ) → number ≡ numberOf (firstOf (lookupRefusals st store label)) → number ≡ 0 → (damaged st store ≡ false) × (labelOk label ≡ true)
 may-look st store label number n z = by-tests (damaged st store) (labelOk label) (sym n ∙ z)
   where

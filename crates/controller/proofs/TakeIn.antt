@@ -2,6 +2,7 @@
 use Prim.Native.Nat.{ℕ, _≤_}
 use mathlib.Core.Path.{_≡_, refl, sym, ap, subst, _∙_}
 use mathlib.Core.Bool.{Bool, true, false, not, cond, _&&_, _||_}
+use mathlib.Core.Logic.{_⊎_, inl, inr}
 use mathlib.Core.List.{[], _∷_, _++_, append-nil}
 use native.Mathlib.Omega.{arith}
 use lib.Dec.{isEq, eqb}
@@ -11,7 +12,7 @@ use borrow.Author.Needs.{needs}
 use borrow.Author.Tests.{not-false, not-true, ltb-false, eqb-true, eq-eqb, ne-eqb}
 use Rattle.wire.specs.Lists.{any}
 use Rattle.wire.specs.Bytes.{Bytes, startsWith, compareBytes, partOf}
-use Rattle.wire.proofs.Tests.{both, both-left, both-right, both-ways, pass}
+use Rattle.wire.proofs.Tests.{both, both-left, both-right, both-ways, pass, decided}
 use Rattle.wire.proofs.Lists.{tie-is}
 use Rattle.wire.proofs.Orders.{bytesLawful}
 use Rattle.wire.proofs.ByteOrder.{starts-itself, starts-split}
@@ -23,13 +24,13 @@ use Rattle.dots.specs.Names.{Name}
 use Rattle.dots.specs.Dots.{contextOk}
 use Rattle.dots.specs.Wire.{dotsOf}
 use Rattle.dots.specs.Message.{Message, add, remove, offeredOf}
-use Rattle.dots.proofs.Table.{none-holds}
+use Rattle.dots.proofs.Table.{NoneHolds, none-holds}
 use Rattle.dots.proofs.Rules.{ascending-valid}
 use Rattle.clock.specs.Row.{windowWidth}
 use Rattle.clock.specs.Clock.{rowAt, joinAll, near}
 use Rattle.messages.specs.declared.MessageRead.{MessageRead}
 use Rattle.messages.specs.Message.{addKind, messageOk}
-use Rattle.messages.specs.Read.{nameOf as messageName, messageOf, readRefusals, readAnswer, readOf}
+use Rattle.messages.specs.Read.{nameOf as messageName, messageOf, readRefusals, readAnswer, accepted, noMessage, readOf}
 use Rattle.messages.proofs.Accepted.{Found, found, read-answers}
 use Rattle.store.specs.Valid.{storeMost}
 use Rattle.replica.specs.Machine.{takeIn, apply, effect}
@@ -41,7 +42,7 @@ use Rattle.calls.specs.Effect.{tombstoneOf, stateOf, storeOf}
 use Rattle.calls.specs.Refusals.{otherSet, ownAhead, tooFar, tombstoneFull, storeFull}
 use Rattle.calls.specs.Calls.{toStore, takeInRefusals, takeInDone, takeInResult}
 use Rattle.calls.specs.Promise.{Leaves}
-use Rattle.steps.specs.Tests.{stateOk, stateWith, aheadOf, nextTombstone, ContextFits, addLate, removeLate, MayOffer, MayApply, applied}
+use Rattle.steps.specs.Tests.{stateOk, LowPart, stateWith, aheadOf, nextTombstone, ContextFits, addLate, removeLate, MayOffer, MayApply, applied}
 use Rattle.controller.specs.Work.{takenLate, takenAnswer, MayTakeIn}
 use Rattle.calls.proofs.Clauses.{undamaged, used-fits, store-fits}
 use Rattle.steps.proofs.Performed.{removed-state, removed-store}
@@ -74,6 +75,22 @@ other-set-is name given len starts h e =
     rw (e, ← same-bytes given (take len name), size)
 
 -- ---- the message that was read
+
+none-read : (s : Bytes) → accepted s ≡ false → readOf s ≡ noMessage (readAnswer s)
+unfolding readOf
+none-read s h = rw h
+
+-- the place of its label is small, whatever the bytes are
+pub label-place : (s : Bytes) (r : MessageRead) → r ≡ readOf s → (r .label .at ≤ 4096) × (r .label .len ≤ 4096)
+label-place s r e = by-test (decided (accepted s))
+  where
+    by-test : (accepted s ≡ true) ⊎ (accepted s ≡ false) → (r .label .at ≤ 4096) × (r .label .len ≤ 4096)
+    by-test (inl h) =
+        let f = found s r e (ap numberOf (ap (λ (x : MessageRead). x .answer) e ∙ read-answers s) ∙ eqb-true (numberOf (readAnswer s)) 0 h) in
+        let short = f .short in
+        let within = f .label-within in
+        (omega arith, omega arith)
+    by-test (inr h) = rw (e, none-read s h) (omega arith, omega arith)
 
 module _ (s : Bytes) (r : MessageRead) (f : Found s r) where
   pub add-read : r .kind ≡ addKind → messageOf s ≡ add (partOf s (r .label)) (r .dot) (dotsOf (partOf s (r .context)))
@@ -176,10 +193,16 @@ module _ (st : State) (store message : Bytes) (read : MessageRead) (read-is : re
     take-in-refused h = leaves-refused st store [] (takeInRefusals st store message) (takeInDone st store message) a k answered numbered h
 
     module _ (z : k ≡ 0) where
-      pub may-take-in : length (st .name .bytes) ≡ 16 → length (st .clock .words) ≡ 32 → MayTakeIn st store message read
+      none-refuses : NoneHolds (takeInRefusals st store message)
+      none-refuses = none-of (takeInRefusals st store message) a k answered numbered (search needs) z
+
+      pub take-whole : damaged st store ≡ false
+      take-whole = none-refuses .0
+
+      pub may-take-in : length (st .name .bytes) ≡ 16 → length (st .clock .words) ≡ 32 → (low : ℕ) → LowPart st store (partOf message (read .label)) low → MayTakeIn st store message read low
       unfolding readAnswer
-      may-take-in size words =
-          let n = none-of (takeInRefusals st store message) a k answered numbered (search needs) z in
+      may-take-in size words low front =
+          let n = none-refuses in
           let m = n .1 .1 .1 .1 .1 .1 in
           let accepts : numberOf (readAnswer message) ≡ 0 = rw (n .1 .0, n .1 .1 .0, n .1 .1 .1 .0, n .1 .1 .1 .1 .0, n .1 .1 .1 .1 .1 .0) refl in
           let none : numberOf (firstOf (rest st store (messageName message) (messageOf message))) ≡ 0 = rw (m .0, m .1 .0, m .1 .1 .0, m .1 .1 .1 .0, m .1 .1 .1 .1 .0) refl in
@@ -189,6 +212,7 @@ module _ (st : State) (store message : Bytes) (read : MessageRead) (read-is : re
             passed = ap numberOf (late-is st store (name-length st size (state-kept st store (n .0))) (messageName message) (messageOf message)) ∙ none;
             name-size = size;
             words-size = words;
+            front = front;
           }
 
       pub take-in-done : (next : State) (store′ : Bytes)
@@ -201,7 +225,7 @@ module _ (st : State) (store message : Bytes) (read : MessageRead) (read-is : re
 
 -- ---- the work
 
-module _ (st : State) (store s : Bytes) (r : MessageRead) (m : MayTakeIn st store s r) (context : Bytes) (context-is : context ≡ partOf s (r .context)) where
+module _ (st : State) (store s : Bytes) (r : MessageRead) (low : ℕ) (m : MayTakeIn st store s r low) (context : Bytes) (context-is : context ≡ partOf s (r .context)) where
   small : st .used ≤ storeMost
   small =
       let u = undamaged st store (m .whole) in
@@ -233,6 +257,9 @@ module _ (st : State) (store s : Bytes) (r : MessageRead) (m : MayTakeIn st stor
           name-size = m .name-size;
           words-size = m .words-size;
         }
+
+    pub take-low : LowPart st store label low
+    take-low = rw e (m .front)
 
     pub add-taken : (next : State) (store′ : Bytes)
         → (next ≡ stateOf st (applied st store label (dotsOf context) (r .dot))) × (store′ ≡ storeOf st store (applied st store label (dotsOf context) (r .dot)))

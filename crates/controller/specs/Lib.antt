@@ -1,3 +1,3 @@
--- Work: what the calls that change a state test, count on and leave. Reads: what listing and lookup read.
+-- Work: what taking in tests and counts on. Reads: what listing and lookup read.
 pub mod Work
 pub mod Reads

@@ -1,61 +1,35 @@
-// The controller: the public calls on bytes.
+// The controller: the public calls on bytes, but for its own adds and removes.
 ghost use mathlib.Core.Path.{_≡_};
 ghost use mathlib.Core.Bool.{true, not, false};
-ghost use mathlib.Core.List.{[]};
+ghost use mathlib.Core.List.{[], _++_};
 ghost use Prim.Native.Nat.{_+_, _*_, _≤_};
 ghost use lib.Dec.{isEq};
 ghost use lib.ListN.{length, take};
 ghost use Rattle.wire.specs.Lists.{any, member};
 ghost use Rattle.dots.specs.Answer.{firstOf, numberOf};
 ghost use Rattle.dots.specs.Names.{nameOk, labelOk};
-ghost use Rattle.dots.specs.Dots.{maxCounter, dotOf, compareDots, ascendingDots};
+ghost use Rattle.dots.specs.Dots.{compareDots, ascendingDots};
 ghost use Rattle.dots.specs.Wire.{dotsOf};
-ghost use Rattle.clock.specs.Clock.{rowAt};
-ghost use Rattle.dots.specs.Entries.{entry, Entry};
+ghost use Rattle.dots.specs.Entries.{Entry};
 ghost use Rattle.dots.specs.Message.{add, remove};
-ghost use Rattle.messages.specs.Write.{WholeContext, Wrote};
-ghost use Rattle.store.specs.Place.{stretchStart, stretchEnd};
+ghost use Rattle.store.specs.Place.{stretchStart, stretchEnd, Passed};
+ghost use Rattle.keys.specs.Entry.{prefix};
 ghost use Rattle.store.specs.Valid.{storeMost, keysFit};
 ghost use Rattle.calls.specs.Damage.{tombstoneMost, damaged as isDamaged};
 ghost use Rattle.calls.specs.State.{clockModel, view};
-ghost use Rattle.steps.specs.Tests.{stateFrom, stateOk, ContextFits, earlyRefusals, MayOffer};
-ghost use Rattle.controller.specs.Work.{addEarly, takenLate, takenAnswer, Answers, MayAdd, Added, MayTakeIn, MayRemove, Removed};
+ghost use Rattle.steps.specs.Tests.{stateOk, ContextFits, earlyRefusals, MayOffer};
+ghost use Rattle.controller.specs.Work.{takenLate, takenAnswer, MayTakeIn};
 ghost use Rattle.messages.specs.Read.{nameOf as messageName, messageOf, readOf};
 ghost use Rattle.messages.proofs.Accepted.{Found};
-ghost use Rattle.calls.specs.Refusals.{badContext, ownAhead};
+ghost use Rattle.calls.specs.Refusals.{badLabel};
 ghost use Rattle.calls.specs.Effect.{padded, stateOf, storeOf};
-ghost use Rattle.calls.specs.Calls.{freshState, setUp, ownAddResult, ownRemoveResult, takeInResult, listResult, compactDone, compactResult, lookupRefusals, ownAddRefusals, ownRemoveRefusals, takeInRefusals};
+ghost use Rattle.calls.specs.Calls.{freshState, setUp, takeInResult, listResult, compactDone, compactResult, takeInRefusals};
 ghost use Rattle.calls.specs.Promise.{Leaves, Lists, LooksUp};
 ghost use Rattle.wire.specs.Bytes.{IsPart, compareBytes};
 ghost use Rattle.store.specs.Cut.{entriesIn};
 ghost use Rattle.listing.specs.Listing.{linesOfLive};
 ghost use Rattle.controller.specs.Reads.{Readable, linesIn, ListsLines};
 ghost use Rattle.replica.specs.Machine.{effect, takeIn};
-
-// ---- applying a context
-
-// Writes the add message of a set whose name is the first len bytes.
-fn put_add(
-    name: &[u8],
-    len: usize,
-    label: &[u8],
-    dot: dots::Dot,
-    context: &[u8],
-    out: &mut [u8],
-) -> usize
-    requires { ⌜ (len ≤ 16) × (len ≤ length (now name)) × (length (now label) ≤ 32) × WholeContext (now context) × (len + length (now label) + length (now context) + 18 ≤ length (now out)) ⌝ }
-    ensures { λ r. ⌜ Wrote (take len (now (name .entry))) (add (now (label .entry)) dot (dotsOf (now (context .entry)))) (now (out .entry)) (now (out .exit)) r ⌝ }
-{
-    messages::write_add(&name[..len], label, dot, context, out)
-}
-
-// Writes the remove message of a set whose name is the first len bytes.
-fn put_remove(name: &[u8], len: usize, context: &[u8], out: &mut [u8]) -> usize
-    requires { ⌜ (len ≤ 16) × (len ≤ length (now name)) × WholeContext (now context) × (len + length (now context) + 8 ≤ length (now out)) ⌝ }
-    ensures { λ r. ⌜ Wrote (take len (now (name .entry))) (remove (dotsOf (now (context .entry)))) (now (out .entry)) (now (out .exit)) r ⌝ }
-{
-    messages::write_remove(&name[..len], context, out)
-}
 
 // ---- set-up
 
@@ -105,271 +79,6 @@ pub fn set_up(actor: u8, name: &[u8]) -> calls::SetUp
         answer: dots::Answer::Done,
         state: fresh_state(actor, name),
     }
-}
-
-// ---- own add
-
-// The dot that an own add takes.
-fn next_dot(own: dots::Actor, words: &[u64; 32]) -> dots::Dot
-    requires { ⌜ rowAt (now words) (own .number) .base + 1 ≤ maxCounter ⌝ }
-    ensures { λ r. ⌜ r ≡ dotOf own (rowAt (now (words .entry)) (own .number) .base + 1) ⌝ }
-{
-    let base = steps::own_base(words, own);
-    dots::Dot {
-        actor: own,
-        counter: dots::Counter { number: base + 1 },
-    }
-}
-
-// The refusals 1, 5, 6, 8 and 9 of an own add.
-fn add_early<'a>(
-    own: dots::Actor,
-    name: &'a [u8; 16],
-    len: usize,
-    words: &'a [u64; 32],
-    tombstone: &'a [u8; 1152],
-    count: usize,
-    used: usize,
-    store: &[u8],
-    label: &[u8],
-    context: &[u8],
-) -> dots::Answer
-    ensures { λ r. ⌜ r ≡ firstOf (addEarly (stateFrom own (now (name .entry)) len (now (words .entry)) (now (tombstone .entry)) count used) (now (store .entry)) (now (label .entry)) (now (context .entry))) ⌝ }
-{
-    let base = steps::own_base(words, own);
-    let damage = steps::damaged(own, name, len, words, tombstone, count, used, store);
-    let named = dots::label_ok(label);
-    let bad = steps::context_bad(context);
-    let taken = steps::has_next(own, base, context);
-    let ahead = steps::own_ahead(own, base, context);
-    steps::early_answer(damage, !named, bad | taken, ahead, base == u64::MAX)
-}
-
-// The answer of an own add, for an output of so many bytes.
-fn add_answer<'a>(
-    own: dots::Actor,
-    name: &'a [u8; 16],
-    len: usize,
-    words: &'a [u64; 32],
-    tombstone: &'a [u8; 1152],
-    count: usize,
-    used: usize,
-    store: &[u8],
-    label: &[u8],
-    context: &[u8],
-    room: usize,
-) -> dots::Answer
-    requires { ⌜ (length (now name) ≡ 16) × (length (now tombstone) ≡ 1152) ⌝ }
-    ensures { λ r. ⌜ Answers room (ownAddRefusals (stateFrom own (now (name .entry)) len (now (words .entry)) (now (tombstone .entry)) count used) (now (store .entry)) (now (label .entry)) (now (context .entry))) r ⌝ }
-{
-    let early = add_early(
-        own,
-        name,
-        len,
-        words,
-        tombstone,
-        count,
-        used,
-        store,
-        label,
-        context,
-    );
-    if dots::number_of(early) != 0 {
-        return early;
-    }
-    let dot = next_dot(own, words);
-    let short = room < len + label.len() + context.len() + 18;
-    let crowded = store.len() < used + (len + label.len() + 15);
-    steps::add_late(words, tombstone, count, context, dot, crowded, short)
-}
-
-// Writes the add message, and applies the add.
-fn add_done(
-    state: calls::State,
-    store: &mut [u8],
-    label: &[u8],
-    context: &[u8],
-    out: &mut [u8],
-) -> calls::Outcome
-    requires { ⌜ MayAdd state (now store) (now label) (now context) (length (now out)) ⌝ }
-    ensures { λ r. ⌜ Added state (now (store .entry)) (now (label .entry)) (now (context .entry)) (now (out .entry)) (now (store .exit)) (now (out .exit)) r ⌝ }
-{
-    let name = state.name.bytes;
-    let seen = state.clock.words;
-    let dot = next_dot(state.actor, &seen);
-    let written = put_add(&name, state.name.len, label, dot, context, out);
-    let used = steps::put_entry(store, state.used, &name, state.name.len, label, dot);
-    let mut words = state.clock.words;
-    let mut bytes = state.tombstone.bytes;
-    let count = steps::tombstone_with_context(&seen, &mut bytes, state.tombstone.count, context);
-    clock::join_with_dot(&mut words, context, dot);
-    let actor = state.actor;
-    let named = state.name;
-    calls::Outcome {
-        answer: dots::Answer::Done,
-        state: calls::State {
-            actor: actor,
-            name: named,
-            clock: calls::Clock { words: words },
-            tombstone: calls::Tombstone {
-                bytes: bytes,
-                count: count,
-            },
-            used: used,
-        },
-        written: written,
-    }
-}
-
-// Adds a label under a new dot of this controller, and removes a context. Writes the add message.
-pub fn own_add(
-    state: calls::State,
-    store: &mut [u8],
-    label: &[u8],
-    context: &[u8],
-    out: &mut [u8],
-) -> calls::Outcome
-    ensures { λ r. ⌜ Leaves (ownAddResult state (now (store .entry)) (now (label .entry)) (now (context .entry)) (now (out .entry))) (now (store .exit)) (now (out .exit)) r ⌝ }
-{
-    let answer = add_answer(
-        state.actor,
-        &state.name.bytes,
-        state.name.len,
-        &state.clock.words,
-        &state.tombstone.bytes,
-        state.tombstone.count,
-        state.used,
-        store,
-        label,
-        context,
-        out.len(),
-    );
-    if dots::number_of(answer) != 0 {
-        return calls::Outcome {
-            answer: answer,
-            state: state,
-            written: 0,
-        };
-    }
-    add_done(state, store, label, context, out)
-}
-
-// ---- own remove
-
-// The refusals 1, 6 and 8 of an own remove.
-fn remove_early<'a>(
-    own: dots::Actor,
-    name: &'a [u8; 16],
-    len: usize,
-    words: &'a [u64; 32],
-    tombstone: &'a [u8; 1152],
-    count: usize,
-    used: usize,
-    store: &[u8],
-    context: &[u8],
-) -> dots::Answer
-    ensures { λ r. ⌜ r ≡ firstOf (earlyRefusals (isDamaged (stateFrom own (now (name .entry)) len (now (words .entry)) (now (tombstone .entry)) count used) (now (store .entry))) false (badContext (now (context .entry))) (ownAhead (stateFrom own (now (name .entry)) len (now (words .entry)) (now (tombstone .entry)) count used) (now (store .entry)) (dotsOf (now (context .entry)))) false) ⌝ }
-{
-    let base = steps::own_base(words, own);
-    let damage = steps::damaged(own, name, len, words, tombstone, count, used, store);
-    let dot = steps::context_bad(context);
-    let ahead = steps::own_ahead(own, base, context);
-    steps::early_answer(damage, false, dot, ahead, false)
-}
-
-// The answer of an own remove, for an output of so many bytes.
-fn remove_answer<'a>(
-    own: dots::Actor,
-    name: &'a [u8; 16],
-    len: usize,
-    words: &'a [u64; 32],
-    tombstone: &'a [u8; 1152],
-    count: usize,
-    used: usize,
-    store: &[u8],
-    context: &[u8],
-    room: usize,
-) -> dots::Answer
-    requires { ⌜ (length (now name) ≡ 16) × (length (now tombstone) ≡ 1152) ⌝ }
-    ensures { λ r. ⌜ Answers room (ownRemoveRefusals (stateFrom own (now (name .entry)) len (now (words .entry)) (now (tombstone .entry)) count used) (now (store .entry)) (now (context .entry))) r ⌝ }
-{
-    let early = remove_early(
-        own,
-        name,
-        len,
-        words,
-        tombstone,
-        count,
-        used,
-        store,
-        context,
-    );
-    if dots::number_of(early) != 0 {
-        return early;
-    }
-    let short = room < len + context.len() + 8;
-    steps::remove_late(words, tombstone, count, context, short)
-}
-
-// Applies a context and writes the remove message.
-fn remove_done(state: calls::State, context: &[u8], out: &mut [u8]) -> calls::Outcome
-    requires { ⌜ MayRemove state (now context) (length (now out)) ⌝ }
-    ensures { λ r. ⌜ Removed state (now (context .entry)) (now (out .entry)) (now (out .exit)) r ⌝ }
-{
-    let name = state.name.bytes;
-    let written = put_remove(&name, state.name.len, context, out);
-    let seen = state.clock.words;
-    let mut words = state.clock.words;
-    let mut bytes = state.tombstone.bytes;
-    let count = steps::tombstone_with_context(&seen, &mut bytes, state.tombstone.count, context);
-    clock::join_context(&mut words, context);
-    let actor = state.actor;
-    let named = state.name;
-    calls::Outcome {
-        answer: dots::Answer::Done,
-        state: calls::State {
-            actor: actor,
-            name: named,
-            clock: calls::Clock { words: words },
-            tombstone: calls::Tombstone {
-                bytes: bytes,
-                count: count,
-            },
-            used: state.used,
-        },
-        written: written,
-    }
-}
-
-// Removes a context. Writes the remove message.
-pub fn own_remove(
-    state: calls::State,
-    store: &[u8],
-    context: &[u8],
-    out: &mut [u8],
-) -> calls::Outcome
-    ensures { λ r. ⌜ Leaves (ownRemoveResult state (now (store .entry)) (now (context .entry)) (now (out .entry))) (now (store .entry)) (now (out .exit)) r ⌝ }
-{
-    let answer = remove_answer(
-        state.actor,
-        &state.name.bytes,
-        state.name.len,
-        &state.clock.words,
-        &state.tombstone.bytes,
-        state.tombstone.count,
-        state.used,
-        store,
-        context,
-        out.len(),
-    );
-    if dots::number_of(answer) != 0 {
-        return calls::Outcome {
-            answer: answer,
-            state: state,
-            written: 0,
-        };
-    }
-    remove_done(state, context, out)
 }
 
 // ---- taking in
@@ -465,27 +174,18 @@ fn taken_late(
     taken_remove(state, given, context)
 }
 
-// The answer of taking a message in that was read.
+// The answer of taking a message in that was read. `damage` is refusal 1.
 fn take_answer(
     state: calls::State,
     store: &[u8],
     message: &[u8],
     read: messages::MessageRead,
+    damage: bool,
 ) -> dots::Answer
-    requires { ⌜ read ≡ readOf (now message) ⌝ }
+    requires { ⌜ (read ≡ readOf (now message)) × (damage ≡ isDamaged state (now store)) ⌝ }
     ensures { λ r. ⌜ r ≡ firstOf (takeInRefusals state (now (store .entry)) (now (message .entry))) ⌝ }
 {
     let said = read.answer;
-    let damage = steps::damaged(
-        state.actor,
-        &state.name.bytes,
-        state.name.len,
-        &state.clock.words,
-        &state.tombstone.bytes,
-        state.tombstone.count,
-        state.used,
-        store,
-    );
     let early = dots::first(damage, dots::Answer::Damaged, said);
     if dots::number_of(early) != 0 {
         return early;
@@ -493,20 +193,21 @@ fn take_answer(
     taken_late(state, store.len(), message, read)
 }
 
-// Applies a message that was read and is not refused. Returns the state left.
+// Applies a message that was read and is not refused. The keys of its label do not stand in the first `low` bytes. Returns the state left.
 fn take_done(
     state: calls::State,
     store: &mut [u8],
     message: &[u8],
     read: messages::MessageRead,
+    low: usize,
 ) -> calls::State
-    requires { ⌜ MayTakeIn state (now store) (now message) read ⌝ }
+    requires { ⌜ MayTakeIn state (now store) (now message) read low ⌝ }
     ensures { λ r. ⌜ (r ≡ stateOf state (effect clockModel (view state (now (store .entry))) (takeIn (messageOf (now (message .entry)))))) × (now (store .exit) ≡ storeOf state (now (store .entry)) (effect clockModel (view state (now (store .entry))) (takeIn (messageOf (now (message .entry)))))) ⌝ }
 {
     let context = wire::part(message, read.context.at, read.context.len);
     if read.kind == b'a' {
         let label = wire::part(message, read.label.at, read.label.len);
-        return steps::apply_add(state, store, label, context, read.dot);
+        return steps::apply_add(state, store, label, context, read.dot, low);
     }
     steps::removed_state(state, context)
 }
@@ -516,7 +217,19 @@ pub fn take_in(state: calls::State, store: &mut [u8], message: &[u8]) -> calls::
     ensures { λ r. ⌜ Leaves (takeInResult state (now (store .entry)) (now (message .entry))) (now (store .exit)) [] r ⌝ }
 {
     let read = messages::read_message(message);
-    let answer = take_answer(state, store, message, read);
+    let label = wire::part(message, read.label.at, read.label.len);
+    let found = steps::judge(
+        state.actor,
+        &state.name.bytes,
+        state.name.len,
+        &state.clock.words,
+        &state.tombstone.bytes,
+        state.tombstone.count,
+        state.used,
+        store,
+        label,
+    );
+    let answer = take_answer(state, store, message, read, found == 0);
     if dots::number_of(answer) != 0 {
         return calls::Outcome {
             answer: answer,
@@ -524,7 +237,7 @@ pub fn take_in(state: calls::State, store: &mut [u8], message: &[u8]) -> calls::
             written: 0,
         };
     }
-    let next = take_done(state, store, message, read);
+    let next = take_done(state, store, message, read, found - 1);
     calls::Outcome {
         answer: dots::Answer::Done,
         state: next,
@@ -604,18 +317,19 @@ pub fn list(state: calls::State, store: &[u8], out: &mut [u8]) -> calls::Listed
 
 // ---- lookup
 
-// The stretch of a label's keys in the used part of a store, for a set whose name is the first len bytes.
+// The stretch of a label's keys in the used part of a store, past its first `low` bytes, for a set whose name is the first len bytes.
 fn used_stretch<'a, 'b>(
     store: &'a [u8],
     used: usize,
     name: &'b [u8],
     len: usize,
     label: &'b [u8],
+    low: usize,
 ) -> &'a [u8]
-    requires { ⌜ (used ≤ length (now store)) × (len ≤ length (now name)) × (nameOk (take len (now name)) ≡ true) × (labelOk (now label) ≡ true) ⌝ }
+    requires { ⌜ (used ≤ length (now store)) × (len ≤ length (now name)) × (nameOk (take len (now name)) ≡ true) × (labelOk (now label) ≡ true) × Passed (length (take len (now name))) (prefix (take len (now name)) ++ now label) (take used (now store)) low ⌝ }
     ensures { λ r. ⌜ IsPart (store .entry) (stretchStart (take len (now (name .entry))) (now (label .entry)) (take used (now (store .entry)))) (stretchEnd (take len (now (name .entry))) (now (label .entry)) (take used (now (store .entry)))) r ⌝ }
 {
-    store::stretch(&store[..used], &name[..len], label)
+    store::stretch(&store[..used], &name[..len], label, low)
 }
 
 // Whether some key's dot is not in the tombstone.
@@ -628,20 +342,10 @@ fn any_listed(n: usize, keys: &[u8], tombstone: calls::Tombstone) -> bool
     listing::any_live(n, keys, &bytes[..size])
 }
 
-// The number of the first refusal of a lookup that holds, else 0.
-fn lookup_number(state: calls::State, store: &[u8], label: &[u8]) -> u8
-    ensures { λ r. ⌜ r ≡ numberOf (firstOf (lookupRefusals state (now (store .entry)) (now (label .entry)))) ⌝ }
+// The number of the first refusal of a lookup that holds, else 0. `damage` is refusal 1.
+fn lookup_number(damage: bool, label: &[u8]) -> u8
+    ensures { λ r. ⌜ r ≡ numberOf (firstOf (earlyRefusals damage (badLabel (now (label .entry))) false false false)) ⌝ }
 {
-    let damage = steps::damaged(
-        state.actor,
-        &state.name.bytes,
-        state.name.len,
-        &state.clock.words,
-        &state.tombstone.bytes,
-        state.tombstone.count,
-        state.used,
-        store,
-    );
     let labelled = dots::label_ok(label);
     dots::number_of(steps::early_answer(damage, !labelled, false, false, false))
 }
@@ -656,7 +360,18 @@ pub fn lookup<'a>(
 ) -> &'a [u8]
     ensures { λ r. ⌜ LooksUp state (store .entry) (now (label .entry)) (now (number .exit)) (now (listed .exit)) r ⌝ }
 {
-    let refusal = lookup_number(state, store, label);
+    let found = steps::judge(
+        state.actor,
+        &state.name.bytes,
+        state.name.len,
+        &state.clock.words,
+        &state.tombstone.bytes,
+        state.tombstone.count,
+        state.used,
+        store,
+        label,
+    );
+    let refusal = lookup_number(found == 0, label);
     *number = refusal;
     *listed = false;
     if refusal != 0 {
@@ -664,18 +379,25 @@ pub fn lookup<'a>(
     }
     let name = state.name.bytes;
     let len = state.name.len;
-    let stretch = used_stretch(store, state.used, &name, len, label);
+    let stretch = used_stretch(store, state.used, &name, len, label, found - 1);
     *listed = any_listed(len, stretch, state.tombstone);
     stretch
 }
 
 // ---- compaction
 
-// Drops the dead keys of an undamaged state's store, and their dots from its tombstone.
+// Drops the dead keys of an undamaged state's store, and their dots from its tombstone. With no dots there nothing is dropped.
 fn compact_done(state: calls::State, store: &mut [u8]) -> calls::Outcome
     requires { ⌜ (isDamaged state (now store) ≡ false) × (length (state .name .bytes) ≡ 16) × (length (state .tombstone .bytes) ≡ 1152) ⌝ }
     ensures { λ r. ⌜ Leaves (compactDone state (now (store .entry))) (now (store .exit)) [] r ⌝ }
 {
+    if state.tombstone.count == 0 {
+        return calls::Outcome {
+            answer: dots::Answer::Done,
+            state: state,
+            written: 0,
+        };
+    }
     let mut bytes = state.tombstone.bytes;
     let left = compaction::compact(
         state.name.len,

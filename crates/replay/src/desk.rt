@@ -150,7 +150,7 @@ fn leave(desk: Desk, state: calls::State, store: &[u8], out: &[u8]) -> Desk {
 // Own add with this store and this output.
 fn add_into(desk: Desk, store: &mut [u8], label: &[u8], context: &[u8], out: &mut [u8]) -> Desk {
     let state = desk.state;
-    let r = controller::own_add(state, store, label, context, out);
+    let r = own::own_add(state, store, label, context, out);
     let answer = r.answer;
     print_answer(b"a", answer);
     print::bytes(line::front(out, r.written));
@@ -193,7 +193,7 @@ fn add(desk: Desk, store: &mut [u8], line: &[u8]) -> Desk {
 // Own remove with this store and this output.
 fn remove_into(desk: Desk, store: &[u8], context: &[u8], out: &mut [u8]) -> Desk {
     let state = desk.state;
-    let r = controller::own_remove(state, store, context, out);
+    let r = own::own_remove(state, store, context, out);
     let answer = r.answer;
     print_answer(b"r", answer);
     print::bytes(line::front(out, r.written));

@@ -1,8 +1,10 @@
 -- Refusal 1, as the code tests it, and what an undamaged state keeps. Assumes nothing.
-use mathlib.Core.Path.{_≡_, refl, sym, _∙_}
+use mathlib.Core.Path.{_≡_, refl, sym, ap, _∙_}
 use mathlib.Core.Bool.{Bool, true, false, not, _&&_, _||_}
-use Prim.Native.Nat.{_≤_}
-use borrow.Author.Tests.{leb-true, not-false}
+use Prim.Native.Nat.{ℕ, _-_, _≤_}
+use native.Mathlib.Omega.{arith}
+use lib.Dec.{eqb}
+use borrow.Author.Tests.{leb-true, eqb-false, not-false}
 use Rattle.wire.specs.Bytes.{Bytes}
 use Rattle.wire.proofs.Tests.{both}
 use Rattle.dots.specs.Names.{nameOk}
@@ -13,7 +15,7 @@ use Rattle.store.specs.Valid.{storeOk}
 use Rattle.calls.specs.declared.State.{State}
 use Rattle.calls.specs.State.{nameOf}
 use Rattle.calls.specs.Damage.{stateNameOk, tombstoneOk, damaged}
-use Rattle.steps.specs.Tests.{stateOk}
+use Rattle.steps.specs.Tests.{stateOk, LowPart, Judges}
 
 pub damaged-is : (st : State) (store : Bytes) → damaged st store ≡ (not (stateOk st) || not (storeOk (nameOf st) (st .clock .words) store (st .used)))
 unfolding damaged stateOk
@@ -30,10 +32,27 @@ damaged-is st store = by (actorOk (st .actor .number)) (stateNameOk st) (clockOk
 pub state-damaged : (st : State) (store : Bytes) (ok : Bool) → ok ≡ stateOk st → not ok ≡ true → true ≡ damaged st store
 state-damaged st store ok e t = sym (damaged-is st store ∙ rw (← e, t))
 
-pub store-damaged : (st : State) (store : Bytes) (ok sound : Bool) → ok ≡ stateOk st → not ok ≡ false → sound ≡ storeOk (nameOf st) (st .clock .words) store (st .used) → not sound ≡ damaged st store
-store-damaged st store ok sound e f g = sym (damaged-is st store ∙ rw (← e, f, ← g))
+pub not-not : (b : Bool) → not (not b) ≡ b
+not-not true = refl
+not-not false = refl
+
+-- they hold, and the store decides
+pub store-decides : (st : State) (store : Bytes) (ok : Bool) → ok ≡ stateOk st → not ok ≡ false → storeOk (nameOf st) (st .clock .words) store (st .used) ≡ not (damaged st store)
+store-decides st store ok e f =
+    let is : damaged st store ≡ not (storeOk (nameOf st) (st .clock .words) store (st .used)) = damaged-is st store ∙ rw (← e, f) in
+    sym (ap not is ∙ not-not (storeOk (nameOf st) (st .clock .words) store (st .used)))
 
 -- the name of a state that keeps its rules
 pub name-kept : (st : State) (ok : Bool) → ok ≡ stateOk st → not ok ≡ false → (st .name .len ≤ 16) × (nameOk (nameOf st) ≡ true)
 unfolding stateOk stateNameOk
 name-kept st ok e f = let kept : stateOk st ≡ true = sym e ∙ not-false ok f in (leb-true (st .name .len) 16 (search both), search both)
+
+-- what the pass over state and store tells
+module _ (st : State) (store label : Bytes) (r : ℕ) (j : Judges st store label r) where
+  pub tells-damage : eqb r 0 ≡ damaged st store
+  tells-damage = j .found ∙ not-not (damaged st store)
+
+  pub tells-place : damaged st store ≡ false → (1 ≤ r) × LowPart st store label (r - 1)
+  tells-place h =
+      let some = eqb-false r 0 (tells-damage ∙ h) in
+      (omega (arith, some), j .passed (ap not h))

@@ -1,7 +1,7 @@
 -- What the steps test and count on: tests of the table as the code groups them, and the changes that they make.
 use Prim.Native.Nat.{ℕ, _+_, _*_, _%_, _≤_}
 use mathlib.Core.Bool.{Bool, true, false, not, _&&_}
-use mathlib.Core.List.{List, [], _∷_}
+use mathlib.Core.List.{List, [], _∷_, _++_}
 use mathlib.Core.Path.{_≡_}
 use lib.Dec.{isEq, leb, ltb}
 use lib.ListN.{length, take}
@@ -17,10 +17,12 @@ use Rattle.dots.specs.Dots.{Context, actorOk, dotOf, dotOk, compareActors, comp
 use Rattle.clock.specs.Row.{windowWidth}
 use Rattle.clock.specs.Clock.{sees, rowAt, clockOk, near}
 use Rattle.replica.specs.Machine.{apply, ifUnseen}
+use Rattle.keys.specs.Entry.{prefix}
+use Rattle.store.specs.Place.{Passed, Judged}
 use Rattle.store.specs.Valid.{storeMost}
 use Rattle.calls.specs.declared.State.{State}
 use Rattle.calls.specs.declared.Tombstone.{Tombstone}
-use Rattle.calls.specs.State.{clockModel, Machine, tombstoneDots, view}
+use Rattle.calls.specs.State.{clockModel, Machine, nameOf, tombstoneDots, view}
 use Rattle.calls.specs.Damage.{stateNameOk, tombstoneMost, tombstoneOk, damaged}
 use Rattle.calls.specs.Effect.{padded}
 
@@ -28,6 +30,14 @@ use Rattle.calls.specs.Effect.{padded}
 abbrev pub stateFrom : Actor → Bytes → ℕ → List ℕ → Bytes → ℕ → ℕ → State
 stateFrom own name len words tombstone count used =
     record { actor = own; name = record { bytes = name; len = len }; clock = record { words = words }; tombstone = record { bytes = tombstone; count = count }; used = used }
+
+-- the first `low` used bytes come before all keys of a label
+abbrev pub LowPart : State → Bytes → Label → ℕ → Type 0
+LowPart st store label low = Passed (length (nameOf st)) (prefix (nameOf st) ++ label) (take (st .used) store) low
+
+-- what one pass over state and store tells: 0 if they are damaged, else one more than the length of such a part
+abbrev pub Judges : State → Bytes → Label → ℕ → Type 0
+Judges st store label r = Judged (not (damaged st store)) (length (nameOf st)) (prefix (nameOf st) ++ label) (take (st .used) store) r
 
 -- what is undamaged whatever the store is
 unfoldable pub stateOk : State → Bool

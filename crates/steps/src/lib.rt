@@ -1,7 +1,7 @@
 // The steps that calls share: the tests of refusals, and applying a context or an add.
 ghost use mathlib.Core.Path.{_≡_};
 ghost use mathlib.Core.Bool.{true, cond, _&&_};
-ghost use mathlib.Core.List.{_∷_};
+ghost use mathlib.Core.List.{_∷_, _++_};
 ghost use Prim.Native.Nat.{_+_, _*_, _≤_};
 ghost use lib.Dec.{eqb, leb, ltb};
 ghost use lib.ListN.{length, take};
@@ -17,11 +17,11 @@ ghost use Rattle.dots.specs.Entries.{entry};
 ghost use Rattle.wire.specs.Bytes.{startsWith};
 ghost use Rattle.keys.specs.Entry.{prefix};
 ghost use Rattle.store.specs.Cut.{keysOf};
-ghost use Rattle.store.specs.Place.{insertedEntry};
+ghost use Rattle.store.specs.Place.{insertedEntry, Passed, Judged};
 ghost use Rattle.store.specs.Valid.{storeOk};
 ghost use Rattle.calls.specs.Damage.{zeroFrom, tombstoneMost, damaged as isDamaged};
 ghost use Rattle.calls.specs.State.{tombstoneDots};
-ghost use Rattle.steps.specs.Tests.{stateOk, stateFrom, stateWith, aheadOf, joinsTombstone, Tombstoned, Padded, ContextFits, earlyRefusals, lateRefusals, addTests, removeTests, MayJoin, MayApply, applied};
+ghost use Rattle.steps.specs.Tests.{stateOk, stateFrom, LowPart, Judges, stateWith, aheadOf, joinsTombstone, Tombstoned, Padded, ContextFits, earlyRefusals, lateRefusals, addTests, removeTests, MayJoin, MayApply, applied};
 ghost use Rattle.calls.specs.Refusals.{badContext};
 ghost use Rattle.calls.specs.Effect.{tombstoneOf, stateOf, storeOf};
 
@@ -98,22 +98,45 @@ fn state_ok<'a>(
     ((1 <= own.number) & (own.number <= 16)) & (named & (rows & removed))
 }
 
-// Whether the store is undamaged, for a set whose name is the first len bytes. The pass over the keys asks a copy of the clock on the stack.
-fn store_sound<'a, 'b>(
+// Whether the store is undamaged, for a set whose name is the first len bytes: 0 if not, else one more than how many used bytes come before all keys of a label.
+// The pass over the keys asks a copy of the clock on the stack.
+fn judge_store<'a, 'b>(
     name: &'a [u8],
     len: usize,
     words: &'a [u64; 32],
     store: &'b [u8],
     used: usize,
-) -> bool
+    label: &[u8],
+) -> usize
     requires { ⌜ (len ≤ length (now name)) × (nameOk (take len (now name)) ≡ true) ⌝ }
-    ensures { λ r. ⌜ r ≡ storeOk (take len (now (name .entry))) (now (words .entry)) (now (store .entry)) used ⌝ }
+    ensures { λ r. ⌜ Judged (storeOk (take len (now (name .entry))) (now (words .entry)) (now (store .entry)) used) (length (take len (now (name .entry)))) (prefix (take len (now (name .entry))) ++ now (label .entry)) (take used (now (store .entry))) r ⌝ }
 {
     let here = *words;
-    store::store_ok(&name[..len], &here, store, used)
+    store::judge(&name[..len], &here, store, used, label)
 }
 
-// Refusal 1: whether the state of these parts or its store is damaged. The parts are lent, since a state by value would be copied.
+// Refusal 1, and where to look for a label: 0 if the state of these parts or its store is damaged, else one more than how many used bytes come before all keys of the label.
+// The parts are lent, since a state by value would be copied.
+pub fn judge<'a, 'b>(
+    own: dots::Actor,
+    name: &'a [u8; 16],
+    len: usize,
+    words: &'a [u64; 32],
+    tombstone: &'a [u8; 1152],
+    count: usize,
+    used: usize,
+    store: &'b [u8],
+    label: &[u8],
+) -> usize
+    ensures { λ r. ⌜ Judges (stateFrom own (now (name .entry)) len (now (words .entry)) (now (tombstone .entry)) count used) (now (store .entry)) (now (label .entry)) r ⌝ }
+{
+    if !state_ok(own, name, len, words, tombstone, count) {
+        return 0;
+    }
+    judge_store(name, len, words, store, used, label)
+}
+
+// Refusal 1: whether the state of these parts or its store is damaged.
 pub fn damaged<'a, 'b>(
     own: dots::Actor,
     name: &'a [u8; 16],
@@ -126,10 +149,18 @@ pub fn damaged<'a, 'b>(
 ) -> bool
     ensures { λ r. ⌜ r ≡ isDamaged (stateFrom own (now (name .entry)) len (now (words .entry)) (now (tombstone .entry)) count used) (now (store .entry)) ⌝ }
 {
-    if !state_ok(own, name, len, words, tombstone, count) {
-        return true;
-    }
-    !store_sound(name, len, words, store, used)
+    judge(
+        own,
+        name,
+        len,
+        words,
+        tombstone,
+        count,
+        used,
+        store,
+        &store[0..0],
+    )
+        == 0
 }
 
 // ---- refusals 6, 8, 9 and 11
@@ -385,7 +416,7 @@ fn clock_with_context(clock: calls::Clock, context: &[u8]) -> calls::Clock
 }
 
 // The state with another clock, tombstone and used length.
-pub fn state_with(
+fn state_with(
     state: calls::State,
     clock: calls::Clock,
     tombstone: calls::Tombstone,
@@ -439,11 +470,12 @@ pub fn put_entry(
     len: usize,
     label: &[u8],
     dot: dots::Dot,
+    low: usize,
 ) -> usize
-    requires { ⌜ (len ≤ length (now name)) × (nameOk (take len (now name)) ≡ true) × (labelOk (now label) ≡ true) × (all (startsWith (prefix (take len (now name)))) (keysOf (length (take len (now name))) (take used (now store))) ≡ true) × (used + (len + length (now label) + 15) ≤ length (now store)) ⌝ }
+    requires { ⌜ (len ≤ length (now name)) × (nameOk (take len (now name)) ≡ true) × (labelOk (now label) ≡ true) × (all (startsWith (prefix (take len (now name)))) (keysOf (length (take len (now name))) (take used (now store))) ≡ true) × (used + (len + length (now label) + 15) ≤ length (now store)) × Passed (length (take len (now name))) (prefix (take len (now name)) ++ now label) (take used (now store)) low ⌝ }
     ensures { λ r. ⌜ (r ≡ used + (len + length (now (label .entry)) + 15)) × (now (store .exit) ≡ insertedEntry (take len (now (name .entry))) (now (store .entry)) used (entry (now (label .entry)) dot)) ⌝ }
 {
-    store::insert_entry(store, used, &name[..len], label, dot)
+    store::insert_entry(store, used, &name[..len], label, dot, low)
 }
 
 // Applies an add's context, joins its dot, and stores its key where the dot was not seen. Returns the state left.
@@ -453,8 +485,9 @@ pub fn apply_add(
     label: &[u8],
     context: &[u8],
     dot: dots::Dot,
+    low: usize,
 ) -> calls::State
-    requires { ⌜ MayApply state (now store) (now label) (now context) dot ⌝ }
+    requires { ⌜ MayApply state (now store) (now label) (now context) dot × LowPart state (now store) (now label) low ⌝ }
     ensures { λ r. ⌜ (r ≡ stateOf state (applied state (now (store .entry)) (now (label .entry)) (dotsOf (now (context .entry))) dot)) × (now (store .exit) ≡ storeOf state (now (store .entry)) (applied state (now (store .entry)) (now (label .entry)) (dotsOf (now (context .entry))) dot)) ⌝ }
 {
     let words = state.clock.words;
@@ -463,6 +496,6 @@ pub fn apply_add(
     if clock::sees(&words, dot) {
         return added_state(state, context, dot, used);
     }
-    let grown = put_entry(store, used, &name, state.name.len, label, dot);
+    let grown = put_entry(store, used, &name, state.name.len, label, dot, low);
     added_state(state, context, dot, grown)
 }

@@ -11,7 +11,7 @@ use mir.Syntax.{w8}
 use lib.Dec.{eqb, ltb}
 use lib.ListN.{length, take, drop, getD}
 use lib.Seq.{take-take, drop-drop}
-use borrow.Author.Tests.{lt-ltb, eqb-true, eqb-false}
+use borrow.Author.Tests.{lt-ltb, ltb-true, eqb-true, eqb-false}
 use Rattle.wire.specs.Lists.{then, isLt, compareLists}
 use Rattle.wire.specs.Bytes.{Bytes, AreBytes, compareBytes, numberAt, fromBigEndian}
 use Rattle.wire.proofs.Orders.{numbers-self, isLt-differs}
@@ -27,7 +27,7 @@ none-before [] h = absurd (omega arith)
 none-before (b ∷ s) h = refl
 
 -- a number in a part is the one in the whole
-number-part : (s : Bytes) (at len k i : ℕ) → i + k ≤ len → numberAt k (take len (drop at s)) i ≡ numberAt k s (at + i)
+pub number-part : (s : Bytes) (at len k i : ℕ) → i + k ≤ len → numberAt k (take len (drop at s)) i ≡ numberAt k s (at + i)
 number-part s at len k i h = rw (drop-take i len (drop at s), drop-drop i at s, take-take k (len - i) (drop (at + i) s) (omega arith))
 
 -- the numbers read at a place
@@ -103,4 +103,35 @@ module _ (s : Bytes) (small : (i : ℕ) → Fits w8 (getD s i 0)) (label at next
   numbers-decide = elim (decLt label at) [
     | yes h ↦ after-some h
     | no h ↦ after-none (omega arith)
+  ]
+
+-- the first numbers of ascending bytes do not fall
+module _ (s : Bytes) (small : (i : ℕ) → Fits w8 (getD s i 0)) (label at next end word half word′ half′ : ℕ)
+    (old : FirstNumbers s label at word half) (new : FirstNumbers s next end word′ half′) (some : next < end)
+    (ordered : isLt (compareBytes (take (at - label) (drop label s)) (take (end - next) (drop next s))) ≡ true) where
+  from-none : at ≤ label → word ≤ word′
+  unfolding fromBigEndian
+  from-none h =
+      let none : at - label ≡ 0 = omega arith in
+      let no-word : word ≡ 0 = old .first ∙ rw none in
+      omega arith
+
+  from-some : label < at → word ≤ word′
+  from-some h = by-test (eqb word word′) refl
+    where
+      bytes-at : (i n : ℕ) → AreBytes (take n (drop i s))
+      bytes-at i n = bytes-take (drop i s) n (bytes-drop s i (λ k. small k .fits))
+
+      lower : isLt (then (compare word word′) (then (compare half half′) (compareBytes (drop 12 (take (at - label) (drop label s))) (drop 12 (take (end - next) (drop next s)))))) ≡ true
+      lower = rw (old .first, old .second, new .first, new .second)
+          (rw (by-numbers (take (at - label) (drop label s)) (take (end - next) (drop next s)) (bytes-at label (at - label)) (bytes-at next (end - next)) (some-long s label at word half old h) (some-long s next end word′ half′ new some)) at ordered)
+
+      by-test : (t : Bool) → eqb word word′ ≡ t → word ≤ word′
+      by-test true e = let same = eqb-true word word′ e in omega arith
+      by-test false e = let less = ltb-true word word′ (sym (isLt-differs word word′ _ (eqb-false word word′ e)) ∙ lower) in omega arith
+
+  pub numbers-ascend : word ≤ word′
+  numbers-ascend = elim (decLt label at) [
+    | yes h ↦ from-some h
+    | no h ↦ from-none (omega arith)
   ]

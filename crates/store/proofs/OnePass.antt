@@ -2,27 +2,31 @@
 use mathlib.Core.Path.{_≡_, refl, sym, ap, ap₂, _∙_}
 use mathlib.Core.Logic.{_⊎_, inl, inr}
 use mathlib.Core.Bool.{Bool, true, false, not, _&&_, cond}
-use mathlib.Core.List.{List, [], _∷_, _++_, map}
+use mathlib.Core.List.{List, [], _∷_, _++_, map, append-assoc}
 use Prim.Native.Nat.{ℕ, _+_, _-_, _≤_, _<_}
+use native.Mathlib.Nat.{add-zero}
 use native.Mathlib.Omega.{arith}
 use lib.ListN.{length, take, drop, length-append, length-take, length-drop, drop-of-length-le}
 use lib.Seq.{drop-at, drop-drop}
 use borrow.Author.Tests.{not-true, not-false}
 use Rattle.wire.specs.Lists.{all, isLt, ascendsFrom, ascends}
-use Rattle.wire.specs.Bytes.{Bytes, compareBytes, startsWith}
+use Rattle.wire.specs.Bytes.{Bytes, AreBytes, compareBytes, startsWith, numberAt}
 use Rattle.wire.proofs.Tests.{both, decided}
 use Rattle.wire.proofs.ByteOrder.{compare-common, starts-itself}
 use Rattle.wire.proofs.Parts.{rest-part, drop-take}
+use Rattle.wire.proofs.Fields.{bytes-take, bytes-drop}
 use Rattle.dots.specs.Names.{Name}
 use Rattle.dots.specs.Entries.{Entry}
 use Rattle.keys.specs.Entry.{prefix, suffix}
 use Rattle.keys.proofs.EntryKeys.{entry-key-parts, length-prefix, length-suffix}
 use Rattle.store.specs.Cut.{keyLength, keysAfter, keysOf, keySays}
+use Rattle.store.specs.Place.{lowerThan, labelNumber}
 use Rattle.store.specs.Valid.{keyOk, usedOk}
 use Rattle.store.specs.Front.{frontLength}
 use Rattle.store.proofs.Cut.{keyLength-pos, keyLength-le, keysOf-step}
 use Rattle.store.proofs.RoundTrip.{label-size, key-read}
-use Rattle.store.proofs.FirstNumbers.{none-before}
+use Rattle.store.proofs.FirstNumbers.{none-before, number-part}
+use Rattle.store.proofs.Below.{number-below}
 
 -- the bounds of a key: it has 12 bytes at least from its label on, and ends within the keys
 pub record Bounds (name : Name) (keys : Bytes) (at len : ℕ) : Type 0 where
@@ -123,6 +127,10 @@ module _ (name : Name) (words : List ℕ) where
       is-size : len ≡ size at
       is-size = len-is at len read ∙ rw passes
 
+      pub key-length : len ≡ keyLength (length name) (drop at keys)
+      unfolding size
+      key-length = is-size
+
       pub bounds : at < length keys → Bounds name keys at len
       unfolding key size
       bounds h =
@@ -138,6 +146,20 @@ module _ (name : Name) (words : List ℕ) where
       tail-is =
           let left : at + len - (at + (length name + 4)) ≡ size at - (length name + 4) = omega (arith, is-size) in
           rw (left, drop-take (length name + 4) (size at) (drop at keys), drop-drop (length name + 4) at keys)
+
+      -- a key whose number is below that of a label comes before all keys that begin with the prefix and the label
+      pub key-below : AreBytes keys → (label tail′ : Bytes) → AreBytes label → at < length keys → numberAt 8 keys (at + (length name + 4)) < labelNumber label
+          → lowerThan ((prefix name ++ label) ++ tail′) (take len (drop at keys)) ≡ true
+      unfolding key size
+      key-below small label tail′ small′ h lower =
+          let p = parts (key at) passes in
+          let n = length name + 4 in
+          let number : numberAt 8 (tail (key at)) 0 ≡ numberAt 8 keys (at + n) = ap (λ (t : Bytes). numberAt 8 t 0) (sym tail-is) ∙ (rw add-zero at (number-part keys (at + n) (at + len - (at + n)) 8 0 (omega (arith, bounds h .tail-within)))) in
+          let below : isLt (compareBytes (tail (key at)) (label ++ tail′)) ≡ true =
+          number-below (tail (key at)) label tail′ (bytes-drop (key at) n (bytes-take (drop at keys) (size at) (bytes-drop keys at small))) small′ (omega (arith, p .more)) (rw number lower) in
+          let whole : compareBytes (key at) ((prefix name ++ label) ++ tail′) ≡ compareBytes (tail (key at)) (label ++ tail′) =
+          ap (λ (k : Bytes). compareBytes k ((prefix name ++ label) ++ tail′)) (sym (p .whole)) ∙ ap (compareBytes (prefix name ++ tail (key at))) (append-assoc (prefix name) label tail′) ∙ compare-common (prefix name) (tail (key at)) (label ++ tail′) in
+          rw is-size (ap isLt whole ∙ below)
 
     module _ (label at : ℕ) (inv : usedOk name words keys ≡ restOk name words (take (at - label) (drop label keys)) (keysOf (length name) (drop at keys))) where
       pub ended : length keys ≤ at → true ≡ usedOk name words keys

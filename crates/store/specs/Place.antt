@@ -1,11 +1,12 @@
 -- Where a key goes, and the stretch of a label's keys.
-use Prim.Native.Nat.{ℕ, _+_}
+use Prim.Native.Nat.{ℕ, _+_, _-_, _≤_}
 use mathlib.Core.Bool.{Bool, true, not, cond}
 use mathlib.Core.List.{List, [], _∷_, _++_}
 use mathlib.Core.Path.{_≡_}
-use lib.ListN.{length, take, drop}
+use lib.Dec.{eqb}
+use lib.ListN.{length, take, drop, replicate}
 use Rattle.wire.specs.Lists.{isLt, all}
-use Rattle.wire.specs.Bytes.{Bytes, compareBytes, startsWith, insertedAt}
+use Rattle.wire.specs.Bytes.{Bytes, compareBytes, startsWith, insertedAt, fromBigEndian}
 use Rattle.dots.specs.Names.{Name, Label}
 use Rattle.dots.specs.Entries.{Entry}
 use Rattle.keys.specs.Entry.{prefix, entryKey}
@@ -31,6 +32,24 @@ pub record Placed (key : Bytes) (ks : List Bytes) (p : ℕ) : Type 0 where
   pub at : length (endToEnd before) ≡ p
   pub lower : all (lowerThan key) before ≡ true
   pub others : all (λ (k : Bytes). not (lowerThan key k)) after ≡ true
+
+-- the first k bytes are whole keys that come before all keys that begin with `start`
+pub record Passed (n : ℕ) (start keys : Bytes) (k : ℕ) : Type 0 where
+  pub within : k ≤ length keys
+  pub placed : (tail : Bytes) → placeIn (start ++ tail) (keysOf n keys) ≡ k + placeIn (start ++ tail) (keysOf n (drop k keys))
+  pub rest : (test : Bytes → Bool) → all test (keysOf n keys) ≡ true → all test (keysOf n (drop k keys)) ≡ true
+
+-- what one pass over keys tells: 0 if they are not in order, else one more than how many bytes come before all keys that begin with `start`
+pub record Judged (ok : Bool) (n : ℕ) (start keys : Bytes) (r : ℕ) : Type 0 where
+  pub found : eqb r 0 ≡ not ok
+  pub passed : ok ≡ true → Passed n start keys (r - 1)
+
+-- the first 8 bytes of a label, with 0s after a shorter one, and the number in them
+abbrev pub firstEight : Label → Bytes
+firstEight label = take 8 label ++ replicate (8 - length label) 0
+
+unfoldable pub labelNumber : Label → ℕ
+labelNumber label = fromBigEndian (firstEight label)
 
 -- what the keys of a label begin with: the set's prefix, the label and its closing 00
 unfoldable pub labelStart : Name → Label → Bytes

@@ -1,6 +1,7 @@
 // The label store in a lent buffer: label keys end to end, read, compared and moved as raw bytes.
 ghost use mathlib.Core.Path.{_≡_};
 ghost use mathlib.Core.Bool.{true, cond};
+ghost use mathlib.Core.List.{_++_};
 ghost use Prim.Native.Nat.{_+_, _-_, _≤_, _<_};
 ghost use lib.ListN.{length, take, drop};
 ghost use Rattle.wire.specs.Lists.{all, isLt};
@@ -10,7 +11,7 @@ ghost use Rattle.dots.specs.Entries.{entry};
 ghost use Rattle.keys.specs.Entry.{prefix, entryKey};
 ghost use Rattle.store.specs.Cut.{keyLength, keysOf, keyDot};
 ghost use Rattle.store.specs.Valid.{usedOk, storeOk};
-ghost use Rattle.store.specs.Place.{lengthWhile, placeIn, labelStart, stretchStart, stretchEnd, insertedEntry};
+ghost use Rattle.store.specs.Place.{lengthWhile, placeIn, labelStart, stretchStart, stretchEnd, insertedEntry, labelNumber, Passed, Judged};
 ghost use Rattle.store.specs.Front.{afterLength, frontLength, FirstNumbers};
 
 // ---- validity, place, insertion, stretch
@@ -25,6 +26,23 @@ fn put_prefix(out: &mut [u8], name: &[u8]) -> usize
     let end = moves::put(out, next, name);
     let tail = [0, b'e'];
     moves::put(out, end, &tail)
+}
+
+// How many of n bytes are the first 8: all of them if there are fewer.
+fn first_eight(n: usize) -> usize
+    ensures { λ r. ⌜ r ≡ 8 - (8 - n) ⌝ }
+{
+    if n < 8 { n } else { 8 }
+}
+
+// The number in the first 8 bytes of a label, with 0s after a shorter one.
+fn label_number(label: &[u8]) -> u64
+    ensures { λ r. ⌜ r ≡ labelNumber (now (label .entry)) ⌝ }
+{
+    let mut bytes = [0u8; 8];
+    let k = first_eight(label.len());
+    moves::put(&mut bytes, 0, &label[..k]);
+    wire::number_at(&bytes, 0)
 }
 
 // How long label, 00, actor, 00 and counter are at the front of what follows a prefix, if they keep their rules and the dot is seen; else 0.
@@ -95,49 +113,63 @@ fn ascends(
     search::lower(&keys[label..at], &keys[next..end])
 }
 
-// Whether bytes are label keys of the set end to end, ascending, each dot seen. The keys begin alike, so that their order is that of what follows `start`.
-fn keys_ok(name: &[u8], start: &[u8], words: &[u64; 32], keys: &[u8]) -> bool
-    requires { ⌜ (nameOk (now name) ≡ true) × (now start ≡ prefix (now name)) ⌝ }
-    ensures { λ r. ⌜ r ≡ usedOk (now (name .entry)) (now (words .entry)) (now (keys .entry)) ⌝ }
+// One of two places.
+fn pick_place(first: bool, a: usize, b: usize) -> usize
+    ensures { λ r. ⌜ r ≡ cond first a b ⌝ }
 {
+    if first { a } else { b }
+}
+
+// Whether bytes are label keys of the set end to end, ascending, each dot seen: 0 if not, else one more than how many bytes come before all keys of a label.
+// The keys begin alike, so that their order is that of what follows `start`.
+fn judge_keys(name: &[u8], start: &[u8], words: &[u64; 32], keys: &[u8], label: &[u8]) -> usize
+    requires { ⌜ (nameOk (now name) ≡ true) × (now start ≡ prefix (now name)) ⌝ }
+    ensures { λ r. ⌜ Judged (usedOk (now (name .entry)) (now (words .entry)) (now (keys .entry))) (length (now (name .entry))) (prefix (now (name .entry)) ++ now (label .entry)) (now (keys .entry)) r ⌝ }
+{
+    let wanted = label_number(label);
     let mut word = 0;
     let mut half = 0;
-    let mut label = 0;
+    let mut last = 0;
     let mut at = 0;
+    let mut low = 0;
     while at < keys.len() {
         let len = front_length(name, start, words, &keys[at..]);
         if len == 0 {
-            return false;
+            return 0;
         }
         let next = at + (name.len() + 4);
         let end = at + len;
         let next_word = wire::number_at(keys, next);
         let next_half = wire::half_at(keys, next + 8);
-        if !ascends(keys, label, at, next, end, word, half, next_word, next_half) {
-            return false;
+        if !ascends(keys, last, at, next, end, word, half, next_word, next_half) {
+            return 0;
         }
+        low = pick_place(next_word < wanted, end, low);
         word = next_word;
         half = next_half;
-        label = next;
+        last = next;
         at = end;
     }
-    true
+    low + 1
 }
 
-// Whether the store is undamaged: its length and used length, and one pass over the keys.
-pub fn store_ok(name: &[u8], words: &[u64; 32], store: &[u8], used: usize) -> bool
+// Whether the store is undamaged, its length and used length and one pass over the keys: 0 if not, else one more than how many bytes come before all keys of a label.
+pub fn judge(name: &[u8], words: &[u64; 32], store: &[u8], used: usize, label: &[u8]) -> usize
     requires { ⌜ nameOk (now name) ≡ true ⌝ }
-    ensures { λ r. ⌜ r ≡ storeOk (now (name .entry)) (now (words .entry)) (now (store .entry)) used ⌝ }
+    ensures { λ r. ⌜ Judged (storeOk (now (name .entry)) (now (words .entry)) (now (store .entry)) used) (length (now (name .entry))) (prefix (now (name .entry)) ++ now (label .entry)) (take used (now (store .entry))) r ⌝ }
 {
     if 65536 < store.len() {
-        return false;
+        return 0;
     }
     if store.len() < used {
-        return false;
+        return 0;
+    }
+    if used == 0 {
+        return 1;
     }
     let mut start = [0; 20];
     let n = put_prefix(&mut start, name);
-    keys_ok(name, &start[..n], words, &store[..used])
+    judge_keys(name, &start[..n], words, &store[..used], label)
 }
 
 // How long the key at the front of s is, by its label's closing 00; at most all of s.
@@ -156,12 +188,12 @@ pub fn key_length(n: usize, s: &[u8]) -> usize
     len
 }
 
-// Where a key goes in keys end to end: raw bytes are compared, and nothing is decoded.
-pub fn place(n: usize, keys: &[u8], key: &[u8]) -> usize
-    requires { ⌜ n ≤ 16 ⌝ }
+// Where a key goes in keys end to end, the first `low` bytes of which come before it: raw bytes are compared, and nothing is decoded.
+fn place(n: usize, keys: &[u8], key: &[u8], low: usize) -> usize
+    requires { ⌜ (n ≤ 16) × (low ≤ length (now keys)) × (placeIn (now key) (keysOf n (now keys)) ≡ low + placeIn (now key) (keysOf n (drop low (now keys)))) ⌝ }
     ensures { λ r. ⌜ (r ≡ placeIn (now (key .entry)) (keysOf n (now (keys .entry)))) × (r ≤ length (now (keys .entry))) ⌝ }
 {
-    let mut at = 0;
+    let mut at = low;
     while at < keys.len() {
         let end = at + key_length(n, &keys[at..]);
         if !search::lower(&keys[at..end], key) {
@@ -187,14 +219,14 @@ fn comes_before(stored: &[u8], key: &[u8], from: usize, wanted: u64) -> bool
     search::lower(stored, key)
 }
 
-// Where a key goes in keys end to end that all begin as it does up to the label: they are compared from there on.
-fn place_after(n: usize, keys: &[u8], key: &[u8]) -> usize
-    requires { ⌜ (n ≤ 16) × (n + 12 ≤ length (now key)) × (all (startsWith (take (n + 4) (now key))) (keysOf n (now keys)) ≡ true) ⌝ }
+// Where a key goes in keys end to end, the first `low` bytes of which come before it, and the others of which all begin as it does up to the label: they are compared from there on.
+fn place_after(n: usize, keys: &[u8], key: &[u8], low: usize) -> usize
+    requires { ⌜ (n ≤ 16) × (n + 12 ≤ length (now key)) × (low ≤ length (now keys)) × (placeIn (now key) (keysOf n (now keys)) ≡ low + placeIn (now key) (keysOf n (drop low (now keys)))) × (all (startsWith (take (n + 4) (now key))) (keysOf n (drop low (now keys))) ≡ true) ⌝ }
     ensures { λ r. ⌜ (r ≡ placeIn (now (key .entry)) (keysOf n (now (keys .entry)))) × (r ≤ length (now (keys .entry))) ⌝ }
 {
     let from = n + 4;
     let wanted = wire::number_at(key, from);
-    let mut at = 0;
+    let mut at = low;
     while at < keys.len() {
         let end = at + key_length(n, &keys[at..]);
         if !comes_before(&keys[at..end], key, from, wanted) {
@@ -228,29 +260,30 @@ fn put_key(out: &mut [u8], name: &[u8], label: &[u8], dot: dots::Dot) -> usize
     moves::put(out, next, &counter)
 }
 
-// Puts a key in its place among the first `used` bytes; those from there on move up.
-fn insert_key(store: &mut [u8], used: usize, n: usize, key: &[u8])
-    requires { ⌜ (n ≤ 16) × (n + 12 ≤ length (now key)) × (all (startsWith (take (n + 4) (now key))) (keysOf n (take used (now store))) ≡ true) × (used + length (now key) ≤ length (now store)) ⌝ }
+// Puts a key in its place among the first `used` bytes, of which the first `low` come before it; those from there on move up.
+fn insert_key(store: &mut [u8], used: usize, n: usize, key: &[u8], low: usize)
+    requires { ⌜ (n ≤ 16) × (n + 12 ≤ length (now key)) × (used + length (now key) ≤ length (now store)) × (low ≤ length (take used (now store))) × (placeIn (now key) (keysOf n (take used (now store))) ≡ low + placeIn (now key) (keysOf n (drop low (take used (now store))))) × (all (startsWith (take (n + 4) (now key))) (keysOf n (drop low (take used (now store)))) ≡ true) ⌝ }
     ensures { λ _. ⌜ now (store .exit) ≡ insertedAt (now (store .entry)) used (placeIn (now (key .entry)) (keysOf n (take used (now (store .entry))))) (now (key .entry)) ⌝ }
 {
-    let at = place_after(n, &store[..used], key);
+    let at = place_after(n, &store[..used], key, low);
     moves::insert_piece(store, used, at, key);
 }
 
-// Puts the key of an entry in its place; the used bytes from there on move up, and the rest keeps its values. Returns the new used length.
+// Puts the key of an entry in its place, which is not among the first `low` bytes; the used bytes from there on move up, and the rest keeps its values. Returns the new used length.
 pub fn insert_entry(
     store: &mut [u8],
     used: usize,
     name: &[u8],
     label: &[u8],
     dot: dots::Dot,
+    low: usize,
 ) -> usize
-    requires { ⌜ (nameOk (now name) ≡ true) × (labelOk (now label) ≡ true) × (all (startsWith (prefix (now name))) (keysOf (length (now name)) (take used (now store))) ≡ true) × (used + (length (now name) + length (now label) + 15) ≤ length (now store)) ⌝ }
+    requires { ⌜ (nameOk (now name) ≡ true) × (labelOk (now label) ≡ true) × (all (startsWith (prefix (now name))) (keysOf (length (now name)) (take used (now store))) ≡ true) × (used + (length (now name) + length (now label) + 15) ≤ length (now store)) × Passed (length (now name)) (prefix (now name) ++ now label) (take used (now store)) low ⌝ }
     ensures { λ r. ⌜ (r ≡ used + (length (now (name .entry)) + length (now (label .entry)) + 15)) × (now (store .exit) ≡ insertedEntry (now (name .entry)) (now (store .entry)) used (entry (now (label .entry)) dot)) ⌝ }
 {
     let mut key = [0; 63];
     let len = put_key(&mut key, name, label, dot);
-    insert_key(store, used, name.len(), &key[..len]);
+    insert_key(store, used, name.len(), &key[..len], low);
     used + len
 }
 
@@ -271,23 +304,23 @@ fn run(n: usize, keys: &[u8], start: &[u8]) -> usize
 }
 
 // The very stretch of the keys that begin with `start`, from its place on.
-fn stretch_from<'a, 'b>(n: usize, keys: &'a [u8], start: &'b [u8]) -> &'a [u8]
-    requires { ⌜ n ≤ 16 ⌝ }
+fn stretch_from<'a, 'b>(n: usize, keys: &'a [u8], start: &'b [u8], low: usize) -> &'a [u8]
+    requires { ⌜ (n ≤ 16) × (low ≤ length (now keys)) × (placeIn (now start) (keysOf n (now keys)) ≡ low + placeIn (now start) (keysOf n (drop low (now keys)))) ⌝ }
     ensures { λ r. ⌜ IsPart (keys .entry) (placeIn (now (start .entry)) (keysOf n (now (keys .entry)))) (placeIn (now (start .entry)) (keysOf n (now (keys .entry))) + lengthWhile (startsWith (now (start .entry))) (keysOf n (drop (placeIn (now (start .entry)) (keysOf n (now (keys .entry)))) (now (keys .entry))))) r ⌝ }
 {
-    let at = place(n, keys, start);
+    let at = place(n, keys, start, low);
     let end = at + run(n, &keys[at..], start);
     &keys[at..end]
 }
 
-// The very stretch of the keys of a label; the empty one at the place they would go if there are none.
-pub fn stretch<'a, 'b>(keys: &'a [u8], name: &'b [u8], label: &'b [u8]) -> &'a [u8]
-    requires { ⌜ (nameOk (now name) ≡ true) × (labelOk (now label) ≡ true) ⌝ }
+// The very stretch of the keys of a label, which is not among the first `low` bytes; the empty one at the place they would go if there are none.
+pub fn stretch<'a, 'b>(keys: &'a [u8], name: &'b [u8], label: &'b [u8], low: usize) -> &'a [u8]
+    requires { ⌜ (nameOk (now name) ≡ true) × (labelOk (now label) ≡ true) × Passed (length (now name)) (prefix (now name) ++ now label) (now keys) low ⌝ }
     ensures { λ r. ⌜ IsPart (keys .entry) (stretchStart (now (name .entry)) (now (label .entry)) (now (keys .entry))) (stretchEnd (now (name .entry)) (now (label .entry)) (now (keys .entry))) r ⌝ }
 {
     let mut start = [0; 53];
     let len = put_label_start(&mut start, name, label);
-    stretch_from(name.len(), keys, &start[..len])
+    stretch_from(name.len(), keys, &start[..len], low)
 }
 
 // ---- listing

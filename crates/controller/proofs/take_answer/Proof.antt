@@ -8,9 +8,6 @@ use borrow.Author.Needs.{needs}
 use Rattle.controller.proofs.take_answer.Statement.{statement}
 use Rattle.controller.proofs.take_answer.Tie as tie
 
-damaged-requires : tie.Need-damaged-requires
-damaged-requires c κs = search needs
-
 first-requires : tie.Need-first-requires
 first-requires c κs = search needs
 
@@ -18,19 +15,25 @@ number-of-requires : tie.Need-number-of-requires
 number-of-requires c κs = search needs
 
 returns : tie.Need-returns
-returns c = let s = c .before .before .before .before .before .before .before .before .before .before .before in take-refused (s .args .t1) (s .args .store .now) (s .args .message .now) (s .args .read) (s .pre) _ _ _ (c .before .before .before .damaged .ensures) (c .before .before .first .ensures) (c .before .number-of .ensures) (c .if1 .taken)
+returns c =
+    let s = c .before .before .before .before .before in
+    take-refused (s .args .state) (s .args .store .now) (s .args .message .now) (s .args .read) (s .pre .0) _ _ _ (s .pre .1) (c .before .before .first .ensures) (c .before .number-of .ensures) (c .if1 .taken)
 
 taken-late-requires : tie.Need-taken-late-requires
-taken-late-requires c κs = let s = c .before .before .before .before .before .before .before .before .before .before .before in take-kept (s .args .t1) (s .args .store .now) (s .args .message .now) (s .args .read) (s .pre) _ _ _ (c .before .before .before .damaged .ensures) (c .before .before .first .ensures) (c .before .number-of .ensures) (c .if1 .left)
+taken-late-requires c κs =
+    let s = c .before .before .before .before .before in
+    take-kept (s .args .state) (s .args .store .now) (s .args .message .now) (s .args .read) (s .pre .0) _ _ _ (s .pre .1) (c .before .before .first .ensures) (c .before .number-of .ensures) (c .if1 .left)
 
 returns-2 : tie.Need-returns-2
-returns-2 c = let s = c .before .before .before .before .before .before .before .before .before .before .before .before in let size : length (s .args .t1 .name .bytes) ≡ 16 = length-unmapped ℕ (s .args .t1 .name .bytes) 16 (s .good .0 .1 .1 .1 .0 .1 .1 .0 .1 .0 .1) in take-passed (s .args .t1) (s .args .store .now) (s .args .message .now) (s .args .read) (s .pre) _ _ _ (c .before .before .before .before .damaged .ensures) (c .before .before .before .first .ensures) (c .before .before .number-of .ensures) (c .before .if1 .left) size _ (c .taken-late .ensures)
+returns-2 c =
+    let s = c .before .before .before .before .before .before in
+    let size : length (s .args .state .name .bytes) ≡ 16 = length-unmapped ℕ (s .args .state .name .bytes) 16 (s .good .0 .1 .1 .1 .0 .1 .1 .0 .1 .0 .1) in
+    take-passed (s .args .state) (s .args .store .now) (s .args .message .now) (s .args .read) (s .pre .0) _ _ _ (s .pre .1) (c .before .before .before .first .ensures) (c .before .before .number-of .ensures) (c .before .if1 .left) size _ (c .taken-late .ensures)
 
 pub take-answer-spec : {M : Type 1} → statement M
 take-answer-spec =
     tie.close
     (tie.spec
-    damaged-requires
     first-requires
     number-of-requires
     returns

@@ -11,7 +11,7 @@ insert-entry-requires : tie.Need-insert-entry-requires
 insert-entry-requires c κs =
     let s = c .before .before .before .before .before in
     let size = front-size (s .args .name .now) (s .args .len) (s .pre .0) in
-    (s .pre .1, s .pre .2, s .pre .3, rw (← size) (s .pre .4))
+    (s .pre .1, s .pre .2, s .pre .3, rw (← size) (s .pre .4), s .pre .5)
 
 same-length : tie.Need-same-length
 same-length c = search needs

@@ -3,17 +3,18 @@ use Prim.Native.Nat.{ℕ, _+_, _≤_}
 use mathlib.Core.Path.{_≡_}
 use mathlib.Core.Bool.{true}
 use native.Mathlib.Omega.{arith}
-use lib.ListN.{length, take}
+use mathlib.Core.List.{_++_, append-assoc}
+use lib.ListN.{length, take, drop}
 use lib.Seq.{take-at}
 use Rattle.wire.specs.Lists.{all}
 use Rattle.wire.specs.Bytes.{Bytes, startsWith, putAt, insertedAt}
 use Rattle.dots.specs.Names.{Name, Label, nameOk, labelOk}
 use Rattle.dots.specs.declared.Dot.{Dot}
 use Rattle.dots.specs.Entries.{entry}
-use Rattle.keys.specs.Entry.{prefix, entryKey}
+use Rattle.keys.specs.Entry.{prefix, suffix, entryKey}
 use Rattle.keys.proofs.EntryKeys.{entry-key-parts, length-prefix, length-entry-key}
 use Rattle.store.specs.Cut.{keysOf}
-use Rattle.store.specs.Place.{placeIn, insertedEntry}
+use Rattle.store.specs.Place.{placeIn, insertedEntry, Passed}
 use Rattle.store.proofs.Starts.{name-most, label-most, label-some, put-read, put-size, put-room}
 use borrow.Author.Needs.{needs}
 use Rattle.store.proofs.insert_entry.Statement.{statement}
@@ -29,8 +30,13 @@ module _ (name : Name) (label : Label) (d : Dot) (s t store : Bytes) (n used : �
   long : labelOk label ≡ true → length name + 12 ≤ length (take n t)
   long ok = rw (key-read, length-entry-key) (omega (arith, label-some label ok))
 
-  begin : all (startsWith (prefix name)) (keysOf (length name) (take used store)) ≡ true → all (startsWith (take (length name + 4) (take n t))) (keysOf (length name) (take used store)) ≡ true
-  begin every = rw (key-read, entry-key-parts, take-at (prefix name) _ (length name + 4) (length-prefix name)) every
+  -- the keys from `low` on, among which its place is
+  module _ (low : ℕ) (p : Passed (length name) (prefix name ++ label) (take used store) low) where
+    begin : all (startsWith (prefix name)) (keysOf (length name) (take used store)) ≡ true → all (startsWith (take (length name + 4) (take n t))) (keysOf (length name) (drop low (take used store))) ≡ true
+    begin every = rw (key-read, entry-key-parts, take-at (prefix name) _ (length name + 4) (length-prefix name)) (p .rest (startsWith (prefix name)) every)
+
+    placed : placeIn (take n t) (keysOf (length name) (take used store)) ≡ low + placeIn (take n t) (keysOf (length name) (drop low (take used store)))
+    placed = rw (key-read, entry-key-parts) (rw append-assoc at (p .placed (suffix d)))
 
   room : used + (length name + length label + 15) ≤ length store → used + length (take n t) ≤ length store
   room h = rw (key-read, length-entry-key) h
@@ -52,7 +58,7 @@ slice-aggregate-insert-key : tie.Need-slice-aggregate-insert-key
 slice-aggregate-insert-key c = search (needs, put-size, length-entry-key)
 
 insert-key-requires : tie.Need-insert-key-requires
-insert-key-requires c κs = (search (needs, name-most), search (needs, long), search (needs, begin), search (needs, room))
+insert-key-requires c κs = (search (needs, name-most), search (needs, long), search (needs, room), search needs, search (needs, placed), search (needs, begin))
 
 add-result : tie.Need-add-result
 add-result c = search needs

@@ -10,10 +10,10 @@ use Rattle.store.proofs.place.Statement.{statement}
 use Rattle.store.proofs.place.Tie as tie
 
 abbrev Inv-loop : tie.InvT-loop
-Inv-loop n keys key at₀ at = (at ≤ length keys) × (placeIn key (keysOf n keys) ≡ at + placeIn key (keysOf n (drop at keys)))
+Inv-loop n keys key low at₀ at = (at ≤ length keys) × (placeIn key (keysOf n keys) ≡ at + placeIn key (keysOf n (drop at keys)))
 
 abbrev μ-loop : tie.MeasureT-loop
-μ-loop n keys key at₀ at = length keys - at
+μ-loop n keys key low at₀ at = length keys - at
 
 loop-holds : tie.Need-loop-holds Inv-loop μ-loop
 loop-holds c = search needs

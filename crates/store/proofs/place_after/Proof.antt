@@ -17,11 +17,11 @@ use Rattle.store.proofs.place_after.Statement.{statement}
 use Rattle.store.proofs.place_after.Tie as tie
 
 abbrev Inv-loop : tie.InvT-loop
-Inv-loop n keys key from wanted at₀ at =
+Inv-loop n keys key low from wanted at₀ at =
     (at ≤ length keys) × ((placeIn key (keysOf n keys) ≡ at + placeIn key (keysOf n (drop at keys))) × (all (startsWith (take (n + 4) key)) (keysOf n (drop at keys)) ≡ true))
 
 abbrev μ-loop : tie.MeasureT-loop
-μ-loop n keys key from wanted at₀ at = length keys - at
+μ-loop n keys key low from wanted at₀ at = length keys - at
 
 -- bytes that begin with the first m of a key have these in common with it
 common : (key s : List ℕ) (m : ℕ) → m ≤ length key → startsWith (take m key) s ≡ true → take m s ≡ take m key
@@ -72,7 +72,10 @@ comes-before-requires : tie.Need-comes-before-requires Inv-loop μ-loop
 comes-before-requires c κs = (search (needs, begins), search needs, search needs)
 
 returns : tie.Need-returns Inv-loop μ-loop
-returns c = (search (needs, while-left), search needs)
+returns c = (
+  while-left _ _ (c .before .before .before .before .before .before .loop .at) _ (c .before .before .before .before .before .loop-test .taken) (c .before .before .before .key-length .ensures) _ _ (c .before .comes-before .ensures) (c .before .before .before .before .before .before .loop .inv .1 .0) (c .if1 .taken),
+  search needs,
+)
 
 loop-less : tie.Need-loop-less Inv-loop μ-loop
 loop-less c = search (needs, walk-falls)

@@ -1,0 +1,3 @@
+-- OwnAdd, OwnRemove: the two calls.
+pub mod OwnAdd
+pub mod OwnRemove

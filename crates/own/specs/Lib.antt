@@ -1,0 +1,2 @@
+-- Work: what the two calls test, count on and leave.
+pub mod Work
