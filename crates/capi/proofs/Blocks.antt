@@ -7,7 +7,7 @@ use native.Mathlib.Omega.{arith}
 use lib.ListN.{length, drop, length-append, drop-of-length-le}
 use Rattle.wire.specs.Bytes.{Bytes, AreBytes, bigEndian, numberAt}
 use Rattle.wire.proofs.BigEndian.{length-bigEndian}
-use Rattle.wire.proofs.Fields.{byte-on, part-on, number-on, byte-back, part-back, number-back}
+use Rattle.wire.proofs.Fields.{part-length, byte-on, part-on, number-on, byte-back, part-back, number-back}
 use Rattle.dots.specs.Dots.{actorOf}
 use Rattle.calls.specs.declared.State.{State}
 use Rattle.capi.specs.Block.{blockSize, AreWords, wordsBytes, wordsAt, stateBytes, stateIn}
@@ -86,3 +86,8 @@ bytes-in-state s size small =
     let used : bigEndian 8 (numberAt 8 s 1441) ≡ drop 1441 s = sym (append-nil (bigEndian 8 (numberAt 8 s 1441))) ∙ ap (λ (t : Bytes). bigEndian 8 (numberAt 8 s 1441) ++ t) (sym end) ∙ number-back s small 8 1441 (omega arith) in
     rw (used, number-back s small 8 1433 (omega arith), part-back s 281 1152, words-back s small 32 25 (omega arith), number-back s small 8 17 (omega arith), part-back s 1 16)
     (byte-back s 0 (omega arith))
+
+-- the state of a block has arrays of their lengths
+pub arrays-in-state : (s : Bytes) → length s ≡ blockSize → (length (stateIn s .name .bytes) ≡ 16) × (length (stateIn s .tombstone .bytes) ≡ 1152)
+unfolding stateIn
+arrays-in-state s size = (part-length s 1 16 (omega arith), part-length s 281 1152 (omega arith))

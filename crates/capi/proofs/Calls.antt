@@ -1,11 +1,11 @@
 -- A call on bytes that are no block leaves what they say; on a block it leaves the controller's result, packed. Assumes nothing.
 use denote.Ref.{RefT}
-use mathlib.Core.Path.{_≡_, refl, ap, _∙_}
+use mathlib.Core.Path.{_≡_, refl, sym, ap, _∙_}
 use mathlib.Core.Bool.{Bool, false}
 use Prim.Native.Nat.{ℕ}
 use lib.ListN.{length}
 use borrow.Author.Tests.{eq-eqb, ne-eqb}
-use Rattle.wire.specs.Bytes.{Bytes, IsPart}
+use Rattle.wire.specs.Bytes.{Bytes, AreBytes, IsPart}
 use Rattle.dots.specs.Answer.{numberOf}
 use Rattle.dots.specs.declared.Answer.the-variants.{Damaged}
 use Rattle.calls.specs.declared.State.{State}
@@ -16,6 +16,7 @@ use Rattle.calls.specs.Calls.{Result, notLooked, setUp, lookupResult}
 use Rattle.calls.specs.Promise as controller
 use Rattle.capi.specs.Block.{blockSize, stateBytes, stateIn}
 use Rattle.capi.specs.Left.{packed, noBlock, onBlock, lookupLeft}
+use Rattle.capi.proofs.Blocks.{bytes-in-state}
 use Rattle.capi.specs.Promise.{SetsUp, Leaves, Changes, Lists, LooksUp}
 
 -- ---- bytes that are no block
@@ -85,3 +86,10 @@ module _ (block : Bytes) (size : length block ≡ blockSize) where
 
         pub changed : Changes (onBlock block store out call) after store′ r
         changed = record { answered = left .answered; block-is = left .block-is; state-is = left .state-is; store-is = left .store-is }
+
+      -- a call that keeps the state keeps the block
+      pub unchanged : AreBytes block → (store′ out′ : Bytes) (r : ℕ) (done : Outcome) → controller.Leaves (call st) store′ out′ done → call st .state ≡ st → r ≡ numberOf (done .answer)
+          → Changes (onBlock block store out call) block store′ r
+      unchanged small store′ out′ r done leaves same number =
+          let is : done .state ≡ stateIn block = leaves .state-is ∙ same ∙ unpacked in
+          changed block store′ out′ r done leaves (sym (bytes-in-state block size small) ∙ ap stateBytes (sym is), sym is) number

@@ -286,7 +286,7 @@ pub extern "C" fn ptl_lookup<'a>(
     number
 }
 
-// Drops the keys whose dots are in the tombstone.
+// Drops the keys whose dots are in the tombstone. With no dots there the block stays as it is.
 #[no_mangle]
 pub extern "C" fn ptl_compact(state: &mut [u8], store: &mut [u8]) -> u8
     ensures { λ r. ⌜ Changes (compactLeft (now (state .entry)) (now (store .entry))) (now (state .exit)) (now (store .exit)) r ⌝ }
@@ -294,8 +294,13 @@ pub extern "C" fn ptl_compact(state: &mut [u8], store: &mut [u8]) -> u8
     if state.len() != STATE_SIZE {
         return 1;
     }
-    let done = controller::compact(unpack(state), store);
+    let read = unpack(state);
+    let kept = read.tombstone.count == 0;
+    let done = controller::compact(read, store);
     let answer = done.answer;
+    if kept {
+        return dots::number_of(answer);
+    }
     let next = done.state;
     pack(next, state);
     dots::number_of(answer)

@@ -1,7 +1,7 @@
 -- Compacting the store and the tombstone of an undamaged state writes back its machine's compaction. Assumes nothing.
 use Prim.Native.Nat.{ℕ, _-_, _*_, _≤_, max}
 use mathlib.Core.Path.{_≡_, refl, sym, ap, ap₂, subst, _∙_}
-use mathlib.Core.Bool.{true, false, not}
+use mathlib.Core.Bool.{Bool, true, false, not, cond, _||_}
 use mathlib.Core.List.{[], _∷_, _++_, map, append-assoc}
 use native.Mathlib.Omega.{arith}
 use lib.Dec.{eqb}
@@ -10,6 +10,7 @@ use borrow.Author.Tests.{leb-true, eqb-true}
 use Rattle.wire.specs.Lists.{all, member}
 use Rattle.wire.specs.Bytes.{Bytes}
 use Rattle.wire.proofs.Tests.{both, both-left, both-right}
+use Rattle.dots.specs.declared.Answer.{Answer}
 use Rattle.dots.specs.declared.Answer.the-variants.{Done, Damaged}
 use Rattle.dots.specs.declared.Dot.{Dot}
 use Rattle.dots.specs.Dots.{compareDots, ascendingDots}
@@ -34,7 +35,7 @@ use Rattle.calls.specs.State.{clockModel, Machine, nameOf, tombstoneDots, usedP
 use Rattle.calls.specs.Damage.{zeroFrom, stateNameOk, tombstoneOk, damaged}
 use Rattle.calls.specs.Effect.{padded, keysPart, stateOf, storeOf}
 use Rattle.steps.specs.Tests.{stateWith}
-use Rattle.calls.specs.Calls.{refused, compactResult, compactDone}
+use Rattle.calls.specs.Calls.{Result, refused, compactResult, compactDone}
 use Rattle.calls.specs.Promise.{Leaves}
 use Rattle.steps.proofs.Parts.{front-size}
 use Rattle.calls.proofs.Clauses.{Undamaged, undamaged, used-fits, entries-of}
@@ -160,8 +161,23 @@ module _ (st : State) (store : Bytes) where
   unfolding compactResult
   result-done h = rw h
 
-  pub compact-refused : damaged st store ≡ true → Leaves (compactResult st store) store [] (record { answer = Damaged; state = st; written = 0 })
-  compact-refused h = rw (result-refused h) (record { answered = refl; state-is = refl; written-is = refl; store-is = refl; out-is = refl })
+  -- refused, or with no dots in the tombstone
+  module _ (named : length (st .name .bytes) ≡ 16) (size : length (st .tombstone .bytes) ≡ 1152) where
+    by-damage : (damage : Bool) → damage ≡ damaged st store → (damage || eqb (st .tombstone .count) 0) ≡ true → Leaves (compactResult st store) store [] (record { answer = cond damage Damaged Done; state = st; written = 0 })
+    by-damage true d h = rw (result-refused (sym d)) (record { answered = refl; state-is = refl; written-is = refl; store-is = refl; out-is = refl })
+    by-damage false d h = rw (result-done (sym d)) (compact-none st store (sym d) named size (eqb-true (st .tombstone .count) 0 h))
+
+    pub compact-kept : (damage : Bool) (a : Answer) → damage ≡ damaged st store → (damage || eqb (st .tombstone .count) 0) ≡ true → a ≡ cond damage Damaged Done
+        → Leaves (compactResult st store) store [] (record { answer = a; state = st; written = 0 })
+    compact-kept damage a d h e = rw e (by-damage damage d h)
 
   pub compact-done : (store′ : Bytes) (r : Outcome) → damaged st store ≡ false → Leaves (compactDone st store) store′ [] r → Leaves (compactResult st store) store′ [] r
   compact-done store′ r h left = rw (result-done h) left
+
+  -- with no dots in the tombstone the state stays, refused or not
+  pub compact-same : length (st .name .bytes) ≡ 16 → length (st .tombstone .bytes) ≡ 1152 → st .tombstone .count ≡ 0 → compactResult st store .state ≡ st
+  compact-same named size e = by-test (damaged st store) refl
+    where
+      by-test : (b : Bool) → damaged st store ≡ b → compactResult st store .state ≡ st
+      by-test true h = ap (λ (r : Result). r .state) (result-refused h)
+      by-test false h = ap (λ (r : Result). r .state) (result-done h) ∙ sym (compact-none st store h named size e .state-is)

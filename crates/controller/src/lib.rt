@@ -386,18 +386,11 @@ pub fn lookup<'a>(
 
 // ---- compaction
 
-// Drops the dead keys of an undamaged state's store, and their dots from its tombstone. With no dots there nothing is dropped.
+// Drops the dead keys of an undamaged state's store, and their dots from its tombstone.
 fn compact_done(state: calls::State, store: &mut [u8]) -> calls::Outcome
     requires { ⌜ (isDamaged state (now store) ≡ false) × (length (state .name .bytes) ≡ 16) × (length (state .tombstone .bytes) ≡ 1152) ⌝ }
     ensures { λ r. ⌜ Leaves (compactDone state (now (store .entry))) (now (store .exit)) [] r ⌝ }
 {
-    if state.tombstone.count == 0 {
-        return calls::Outcome {
-            answer: dots::Answer::Done,
-            state: state,
-            written: 0,
-        };
-    }
     let mut bytes = state.tombstone.bytes;
     let left = compaction::compact(
         state.name.len,
@@ -425,11 +418,11 @@ fn compact_done(state: calls::State, store: &mut [u8]) -> calls::Outcome
     }
 }
 
-// Drops the keys whose dots are in the tombstone.
+// Drops the keys whose dots are in the tombstone. With no dots there all stays.
 pub fn compact(state: calls::State, store: &mut [u8]) -> calls::Outcome
     ensures { λ r. ⌜ Leaves (compactResult state (now (store .entry))) (now (store .exit)) [] r ⌝ }
 {
-    if steps::damaged(
+    let damage = steps::damaged(
         state.actor,
         &state.name.bytes,
         state.name.len,
@@ -438,9 +431,10 @@ pub fn compact(state: calls::State, store: &mut [u8]) -> calls::Outcome
         state.tombstone.count,
         state.used,
         store,
-    ) {
+    );
+    if damage | (state.tombstone.count == 0) {
         return calls::Outcome {
-            answer: dots::Answer::Damaged,
+            answer: dots::first(damage, dots::Answer::Damaged, dots::Answer::Done),
             state: state,
             written: 0,
         };
