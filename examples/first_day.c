@@ -24,7 +24,7 @@ struct output {
 static const uint8_t set_name[] = {'R', '1'};
 static const uint8_t label[] = {'B', '7'};
 
-/* Dots, each in 9 bytes; the one of counter 1 of actor 1 is the context of A2, R1 and C1. */
+/* Dots, each in PTL_DOT_SIZE bytes; the one of counter 1 of actor 1 is the context of A2, R1 and C1. */
 #define DOT(actor, counter) actor, 0, 0, 0, 0, 0, 0, 0, counter
 static const uint8_t dot_1_1[] = {DOT(1, 1)};
 
@@ -57,16 +57,6 @@ static void expect_bytes(const char *what, const uint8_t *is, size_t is_len, con
             exit(1);
         }
     }
-}
-
-/* A number of the block. */
-static uint64_t number_at(const struct controller *c, size_t at)
-{
-    uint64_t n = 0;
-    for (size_t i = 0; i < 8; i++) {
-        n = n * 256 + c->state[at + i];
-    }
-    return n;
 }
 
 /* ---- calls that must be answered 0 */
@@ -123,22 +113,25 @@ static void lists(const struct controller *c, const uint8_t *listing, size_t lis
     expect_number("stretch's length", found.len, stretch);
 }
 
-/* Used length of the store, and the dots of the tombstone; the rest of the tombstone is zero. */
+/* The used length; the tombstone's dots, zeros to its end, and behind them their number, which its last byte has room for. */
 static void holds(const struct controller *c, uint64_t used, const uint8_t *tombstone, size_t tombstone_len)
 {
-    uint8_t bytes[1152] = {0};
+    uint8_t bytes[PTL_TOMBSTONE_SIZE + PTL_NUMBER_SIZE] = {0};
     if (tombstone_len > 0) {
         memcpy(bytes, tombstone, tombstone_len);
     }
-    expect_number("used length", number_at(c, 1441), used);
-    expect_number("tombstone dots", number_at(c, 1433) * PTL_DOT_SIZE, tombstone_len);
-    expect_bytes("tombstone", c->state + 281, sizeof bytes, bytes, sizeof bytes);
+    bytes[sizeof bytes - 1] = (uint8_t)(tombstone_len / PTL_DOT_SIZE);
+    expect_number("used length", ptl_state_used(c->state), used);
+    expect_bytes("tombstone", c->state + PTL_STATE_TOMBSTONE_AT, sizeof bytes, bytes, sizeof bytes);
 }
 
 int main(void)
 {
     static struct controller one, two;
     static const uint8_t none[1];
+
+    /* The library is the one that this header goes with. */
+    expect_number("version", ptl_version(), PTL_VERSION);
 
     /* A1: fresh actor 1 adds B7, empty context. */
     set_up(&one, 1);

@@ -11,6 +11,7 @@
    4. Any argument values are answered: damaged states and stores, bytes of any kind, buffers of any length.
    5. A controller is its state block and its store. Calls on different controllers may run at the same time; calls on one may not.
    6. Output past the bytes written, and store past the larger of the old and the new used length, keep their values.
+   7. The library is machine code for x86-64 Linux and its calling convention alone (target x86_64-unknown-linux-gnu); size_t has 8 bytes.
 */
 #ifndef PTL_H
 #define PTL_H
@@ -23,40 +24,98 @@
 extern "C" {
 #endif
 
-/* ---- sizes */
+/* Another size of size_t (see 7) does not compile. */
+#if defined(__STDC_VERSION__) && __STDC_VERSION__ >= 201112L
+_Static_assert(sizeof(size_t) == 8, "ptl.h: size_t must have 8 bytes");
+#else
+typedef char ptl_size_t_has_8_bytes[sizeof(size_t) == 8 ? 1 : -1];
+#endif
 
-/* A state crosses as a block of this many bytes. Numbers are big-endian (highest byte first), and every field has its full width: each
-   state has one block, and each block of this size is one state, damaged or not.
+/* ---- version */
 
-     offset  bytes  field
-          0      1  actor
-          1     16  set name; the bytes past its length are 0
-         17      8  length of the set name
-         25    256  clock: 32 words of 8 bytes, base and window of actor 1, those of actor 2, and so on
-        281   1152  tombstone: its dots in ascending order; the bytes past them are 0
-       1433      8  number of dots in the tombstone
-       1441      8  used length: so many bytes of the store are its keys, end to end
+/* The version of this interface: 100 * major + minor. A higher minor number adds functions and macros and keeps all that was there, the
+   block too. Under another major number a function, a limit, a format or the block may be another: see docs/INTEGRATION.md, "Versions". */
+#define PTL_VERSION 100
 
-   A block may be kept, copied and compared as bytes: two states are equal exactly if their blocks are. A block of another size is answered
-   PTL_DAMAGED by every call that takes one; it is not changed. */
-#define PTL_STATE_SIZE 1449
+/* The version that the library has: PTL_VERSION of the header that goes with it. */
+uint32_t ptl_version(void);
 
-/* A dot is an actor in 1 byte and a counter in 8, highest first. A context is 0 to 16 dots end to end, strictly ascending. */
-#define PTL_DOT_SIZE 9
-#define PTL_CONTEXT_MAX (16 * PTL_DOT_SIZE)
+/* ---- limits of the rules */
 
-/* The longest set name, label, key and message, and the longest store. */
+/* Actors are 1 to PTL_ACTOR_MAX. Counters are 1 to the largest number of 8 bytes. A set name has 1 to PTL_NAME_MAX bytes, a label 1 to
+   PTL_LABEL_MAX, none of them 0. A context has at most PTL_CONTEXT_DOTS_MAX dots, the tombstone at most PTL_TOMBSTONE_DOTS_MAX, a store at
+   most PTL_STORE_MAX bytes. A row of the clock sees events up to PTL_WINDOW above its base. */
+#define PTL_ACTOR_MAX 16
 #define PTL_NAME_MAX 16
 #define PTL_LABEL_MAX 32
-#define PTL_KEY_MAX (PTL_NAME_MAX + PTL_LABEL_MAX + 15)
-#define PTL_MESSAGE_MAX 210
+#define PTL_CONTEXT_DOTS_MAX 16
+#define PTL_TOMBSTONE_DOTS_MAX 128
 #define PTL_STORE_MAX 65536
+#define PTL_WINDOW 64
+
+/* ---- sizes in bytes */
+
+/* Numbers (counters, lengths, counts) have 8 bytes, highest first. */
+#define PTL_NUMBER_SIZE 8
+
+/* A dot is an actor in 1 byte and a counter. A context is its dots end to end, strictly ascending. */
+#define PTL_DOT_SIZE (1 + PTL_NUMBER_SIZE)
+#define PTL_CONTEXT_MAX (PTL_CONTEXT_DOTS_MAX * PTL_DOT_SIZE)
+
+/* A label key is magic and version, the set name, 00 and type, the label, 00, actor, 00, and the counter: PTL_KEY_FIXED bytes beside the
+   name and the label. No key is longer. */
+#define PTL_KEY_FIXED (2 + 2 + 3 + PTL_NUMBER_SIZE)
+#define PTL_KEY_MAX (PTL_NAME_MAX + PTL_LABEL_MAX + PTL_KEY_FIXED)
+
+/* A message is mark and version (5), kind (1), the length of the set name (1) and the name; in an add the length of the label (1), the label
+   and the dot; then the number of dots (1) and the context. No message is longer than an add with all of them at their longest. */
+#define PTL_MESSAGE_MAX (5 + 1 + (1 + PTL_NAME_MAX) + (1 + PTL_LABEL_MAX) + PTL_DOT_SIZE + (1 + PTL_CONTEXT_MAX))
+
+/* ---- the state block */
+
+/* The clock has a row for each actor, from actor 1 on: its base, then its window of PTL_WINDOW bits, highest byte first. The tombstone has
+   room for its most dots. */
+#define PTL_ROW_SIZE (PTL_NUMBER_SIZE + PTL_WINDOW / 8)
+#define PTL_CLOCK_SIZE (PTL_ACTOR_MAX * PTL_ROW_SIZE)
+#define PTL_TOMBSTONE_SIZE (PTL_TOMBSTONE_DOTS_MAX * PTL_DOT_SIZE)
+
+/* A state crosses as a block of PTL_STATE_SIZE bytes, in which each field begins at its PTL_STATE_.._AT:
+
+     ACTOR        1 byte
+     NAME         PTL_NAME_MAX bytes: the set name; those past its length are 0
+     NAME_LENGTH  a number
+     CLOCK        PTL_CLOCK_SIZE bytes
+     TOMBSTONE    PTL_TOMBSTONE_SIZE bytes: its dots in ascending order; those past them are 0
+     COUNT        a number: the dots in the tombstone
+     USED         a number, the used length: so many bytes at the store's front are its keys, end to end
+
+   Every field has its full width: each state has one block, and each block of this size is one state, damaged or not. A block may be kept,
+   copied and compared as bytes: two states are equal exactly if their blocks are. A block of another size is answered PTL_DAMAGED by every
+   call that takes one; it is not changed. */
+#define PTL_STATE_ACTOR_AT 0
+#define PTL_STATE_NAME_AT (PTL_STATE_ACTOR_AT + 1)
+#define PTL_STATE_NAME_LENGTH_AT (PTL_STATE_NAME_AT + PTL_NAME_MAX)
+#define PTL_STATE_CLOCK_AT (PTL_STATE_NAME_LENGTH_AT + PTL_NUMBER_SIZE)
+#define PTL_STATE_TOMBSTONE_AT (PTL_STATE_CLOCK_AT + PTL_CLOCK_SIZE)
+#define PTL_STATE_COUNT_AT (PTL_STATE_TOMBSTONE_AT + PTL_TOMBSTONE_SIZE)
+#define PTL_STATE_USED_AT (PTL_STATE_COUNT_AT + PTL_NUMBER_SIZE)
+#define PTL_STATE_SIZE (PTL_STATE_USED_AT + PTL_NUMBER_SIZE)
+
+/* The used length that stands in a block of PTL_STATE_SIZE bytes, damaged or not: in a damaged one it may be more than any store has. */
+static inline uint64_t ptl_state_used(const uint8_t *state)
+{
+    uint64_t used = 0;
+    for (size_t i = 0; i < PTL_NUMBER_SIZE; i++) {
+        used = used * 256 + state[PTL_STATE_USED_AT + i];
+    }
+    return used;
+}
 
 /* ---- answers: the first that holds, in this order, where it applies to the call */
 
 enum {
     PTL_DONE = 0,            /* done */
-    PTL_DAMAGED = 1,         /* the state is damaged, or the store is longer than 65,536 */
+    PTL_DAMAGED = 1,         /* the state is damaged, or the store is longer than PTL_STORE_MAX */
     PTL_NO_MARK = 2,         /* message under 5 bytes or wrong mark */
     PTL_BAD_VERSION = 3,     /* version other than 1 */
     PTL_BAD_SHAPE = 4,       /* a message's kind is unknown, its fields run past the end or bytes are left over; or bytes given as a key are none */
@@ -65,11 +124,14 @@ enum {
     PTL_OTHER_SET = 7,       /* message is for another set */
     PTL_OWN_AHEAD = 8,       /* an offered dot of this controller's own actor, but for the one an own add takes, is above its own base */
     PTL_COUNTER_END = 9,     /* own add with the own base at the largest counter */
-    PTL_TOO_FAR = 10,        /* among all seen and offered dots together, one lies more than 64 above its actor's unbroken run from 1 */
-    PTL_TOMBSTONE_FULL = 11, /* the tombstone would pass 128 dots */
+    PTL_TOO_FAR = 10,        /* among all seen and offered dots together, one lies more than PTL_WINDOW above its actor's unbroken run from 1 */
+    PTL_TOMBSTONE_FULL = 11, /* the tombstone would pass PTL_TOMBSTONE_DOTS_MAX dots */
     PTL_STORE_FULL = 12,     /* a key must be stored and used length + key length exceeds the store */
     PTL_OUTPUT_SHORT = 13    /* the output buffer is shorter than what must be written */
 };
+
+/* The number of answers: each is below it. */
+#define PTL_ANSWERS (PTL_OUTPUT_SHORT + 1)
 
 /* ---- the calls of a controller */
 

@@ -1,4 +1,4 @@
--- The settled cases and the others, by computing. Assumes nothing.
+-- The tables of cases, by computing. Assumes nothing.
 use mathlib.Core.Path.{refl}
 use Rattle.wire.specs.Lists.{keep, any, all, compareLists, member, ascendsFrom, ascends, insert, insertAll}
 use Rattle.wire.specs.Bytes.{bigEndian, fromBigEndian, zeroAt}
@@ -11,71 +11,123 @@ use Rattle.clock.specs.Offered.{total, known, climb, unbroken, windowEvents, to
 use Rattle.clock.specs.Clock.{rowAt, withRow, sees, allTo, rowsOk, clockOk, joinDot, joinEach, joinAll, countersOf, near}
 use Rattle.keys.specs.Key.{namesOk, keyCounterOk, afterType, keyBytes}
 use Rattle.keys.specs.Read.{fieldsAs, isKey}
+use Rattle.keys.specs.Write.{writeAnswer}
 use Rattle.keys.specs.Entry.{entryKey, keyEntry}
 use Rattle.keys.proofs.Cases.{key-cases}
 use Rattle.messages.specs.Message.{messageBytes}
-use Rattle.messages.specs.Read.{layoutOf, markOk, versionOk, shapeOk, messageAt, nameOf, messageOf}
-use Rattle.messages.proofs.Cases.{m1-holds}
+use Rattle.messages.specs.Read.{layoutOf, markOk, versionOk, shapeOk, messageAt, nameOf, messageOf, readAnswer}
+use Rattle.messages.proofs.Cases.{message-cases}
 use Rattle.store.specs.Cut.{endToEnd, storeBytes, keyLength, keysAfter, keyLabel, keyDot, entriesIn}
 use Rattle.store.specs.Valid.{usedOk, storeOk}
 use Rattle.listing.specs.Listing.{listingBytes}
-use Rattle.replica.specs.Machine.{apply, compacted, listing, found, effect}
+use Rattle.replica.specs.Machine.{messagesOf, apply, compacted, listing, found, effect}
+use Rattle.replica.specs.Rule.{countOwnAdd, historyFrom, ruleListing}
 use Rattle.calls.specs.State.{view}
 use Rattle.calls.specs.Damage.{stateNameOk, tombstoneOk, damaged}
 use Rattle.calls.specs.Effect.{stateOf, storeOf}
 use Rattle.calls.specs.Calls.{setUp, ownAddResult, ownRemoveResult, takeInResult, listResult, lookupResult, compactResult}
-use Rattle.calls.specs.Sequence.{resultOf, run}
+use Rattle.calls.specs.Sequence.{resultOf, run, callOf, events, messageBytesOf, traffic}
 use Rattle.calls.specs.Cases.{dot, answersOf, lastOutput, shown, StarredCases}
 use Rattle.calls.specs.Line.{LineCases}
+use Rattle.calls.specs.Order.{OrderCases}
+use Rattle.calls.specs.DamageCases.{DamageCases}
+use Rattle.calls.specs.Premises.{PremisesMet, TwoLabels}
 
-cases : StarredCases × LineCases
-unfolding keep any all compareLists member ascendsFrom ascends insert insertAll bigEndian fromBigEndian zeroAt textOk dotOk ascendingDots dotBytes dotsBytes dotsAt dotsOf prepend linesOf testBit seen wellFormed trailingOnes settled marked join total known climb unbroken windowEvents tooFar rowAt withRow sees allTo rowsOk clockOk joinDot joinEach joinAll countersOf near namesOk keyCounterOk afterType keyBytes fieldsAs isKey entryKey keyEntry messageBytes layoutOf markOk versionOk shapeOk messageAt nameOf messageOf endToEnd storeBytes keyLength keysAfter keyLabel keyDot entriesIn usedOk storeOk listingBytes apply compacted listing found effect view stateNameOk tombstoneOk damaged stateOf storeOf setUp ownAddResult ownRemoveResult takeInResult listResult lookupResult compactResult resultOf run answersOf lastOutput shown
-cases = (
-  record {
-    K1 = (key-cases .k1-written, key-cases .k1-decoded);
-    M1 = m1-holds;
-    A1 = refl;
-    A2 = refl;
-    A2-compacted = refl;
-    R1 = refl;
-    C1 = refl;
-    W1 = refl;
-    W2 = refl;
-    W3 = refl;
-    W4 = refl;
-    N1 = refl;
-    O1 = λ a b c. key-cases .o1 (dot 1 a) (dot 1 b) (dot 1 c);
-  },
-  record {
-    label-32-33 = refl;
-    context-16-17 = refl;
-    version-first = refl;
-    own-dot = refl;
-    no-room = refl;
-    tombstone-full = refl;
-    no-output = refl;
-    store-past = refl;
-    output-past = refl;
-    freed-bytes = refl;
-    counter-end = refl;
-    no-whole-dots = refl;
-    first-holds = refl;
-    damage-first = refl;
-    store-longest = refl;
-    other-set = refl;
-    stretch = refl;
-    stretch-empty = refl;
-    stretch-refused = refl;
-    used-past = refl;
-    no-keys = refl;
-    window-bit-0 = refl;
-    window-bit-1 = refl;
-    refused-set-up = refl;
-  },
-)
+-- all that the cases compute with: whoever unfolds this unfolds each of these
+computing : Unit {0}
+unfolding keep any all compareLists member ascendsFrom ascends insert insertAll bigEndian fromBigEndian zeroAt textOk dotOk ascendingDots dotBytes dotsBytes dotsAt dotsOf prepend linesOf testBit seen wellFormed trailingOnes settled marked join total known climb unbroken windowEvents tooFar rowAt withRow sees allTo rowsOk clockOk joinDot joinEach joinAll countersOf near namesOk keyCounterOk afterType keyBytes fieldsAs isKey entryKey keyEntry messageBytes layoutOf markOk versionOk shapeOk messageAt nameOf messageOf endToEnd storeBytes keyLength keysAfter keyLabel keyDot entriesIn usedOk storeOk listingBytes apply compacted listing found effect view stateNameOk tombstoneOk damaged stateOf storeOf setUp ownAddResult ownRemoveResult takeInResult listResult lookupResult compactResult resultOf run answersOf lastOutput shown writeAnswer readAnswer countOwnAdd historyFrom ruleListing messagesOf callOf events messageBytesOf traffic mathlib.Core.List.flatMap
+computing = tt
 
 pub starred-cases : StarredCases
-starred-cases = cases .0
+unfolding computing
+starred-cases = record {
+  K1 = (key-cases .k1-written, key-cases .k1-decoded);
+  M1 = message-cases .M1;
+  A1 = refl;
+  A2 = refl;
+  A2-compacted = refl;
+  R1 = refl;
+  C1 = refl;
+  W1 = refl;
+  W2 = refl;
+  W3 = refl;
+  W4 = refl;
+  N1 = refl;
+  O1 = λ a b c. key-cases .o1 (dot 1 a) (dot 1 b) (dot 1 c);
+}
 
 pub line-cases : LineCases
-line-cases = cases .1
+unfolding computing
+line-cases = record {
+  label-32-33 = refl;
+  context-16-17 = refl;
+  version-first = refl;
+  own-dot = refl;
+  no-room = refl;
+  no-output = refl;
+  store-past = refl;
+  output-past = refl;
+  freed-bytes = refl;
+  stretch = refl;
+  stretch-empty = refl;
+  slip-1 = refl;
+  slip-2 = refl;
+}
+
+pub order-cases : OrderCases
+unfolding computing
+order-cases = record {
+  own-add = refl;
+  own-add-at-end = refl;
+  own-remove = refl;
+  take-in = refl;
+  full-tombstone = refl;
+  list = refl;
+  lookup = refl;
+  read-message = refl;
+  write-key = refl;
+}
+
+pub damage-cases : DamageCases
+unfolding computing
+damage-cases = record {
+  actor = refl;
+  name-length = refl;
+  name-bytes = refl;
+  window = refl;
+  last-event = refl;
+  tombstone-count = refl;
+  tombstone-order = refl;
+  tombstone-seen = refl;
+  tombstone-rest = refl;
+  store-length = refl;
+  used = refl;
+  end-to-end = refl;
+  label-keys = refl;
+  ascending = refl;
+  of-this-set = refl;
+  key-seen = refl;
+}
+
+pub premises-met : PremisesMet
+unfolding computing
+premises-met = record {
+  set-up-1 = refl;
+  set-up-2 = refl;
+  traffic-1 = refl;
+  traffic-2 = refl;
+  labels-1 = refl;
+  labels = refl;
+  next-1 = refl;
+  next-2 = refl;
+}
+
+pub two-labels : TwoLabels
+unfolding computing
+two-labels = record {
+  accepted = refl;
+  first-comes = refl;
+  other-order = refl;
+  one-removed = refl;
+  both-removed = refl;
+}

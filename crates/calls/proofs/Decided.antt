@@ -1,18 +1,30 @@
--- A call that is refused leaves what is held; one that is accepted did its work and passed every test. Assumes nothing.
+-- A call that is refused or only reads leaves what is held; one that is accepted did its work and passed every test. Assumes nothing.
 use mathlib.Core.Path.{_≡_, refl, sym, ap, _∙_}
 use mathlib.Core.Bool.{Bool, true, false, cond, false≢true}
 use mathlib.Core.List.{[], _++_}
 use lib.Dec.{eqb}
 use lib.ListN.{length}
 use lib.Seq.{take-at}
+use borrow.Author.Needs.{needs}
 use borrow.Author.Tests.{eqb-true, eq-eqb}
 use Rattle.wire.specs.Bytes.{Bytes}
 use Rattle.dots.specs.Answer.{numberOf, Refusals, firstOf}
 use Rattle.dots.specs.declared.Answer.{Answer}
 use Rattle.dots.specs.declared.Answer.the-variants.{Done}
+use Rattle.dots.proofs.Table.{none-holds}
 use Rattle.calls.specs.declared.State.{State}
+use Rattle.calls.specs.Damage.{damaged}
 use Rattle.calls.specs.Calls.{Result, refused, decided, ownAddResult, ownRemoveResult, takeInResult, listResult, lookupResult, compactResult, ownAddRefusals, ownAddDone, ownRemoveRefusals, ownRemoveDone, takeInRefusals, takeInDone, listRefusals, listDone, notLooked, lookupRefusals, lookupDone, compactRefusals, compactDone}
 use Rattle.calls.specs.Sequence.{Input, addInput, removeInput, messageInput, listInput, lookupInput, compactInput, Held, resultOf, answerOf, heldAfter, step}
+
+-- a part of the result that the call's work leaves as a refusal does
+pub decided-either : {A : Type 0} (st : State) (store out : Bytes) (rs : Refusals) (done : Result) (part : Result → A)
+    → part done ≡ part (refused st store out (firstOf rs)) → part (decided st store out rs done) ≡ part (refused st store out (firstOf rs))
+decided-either st store out rs done part e = by (eqb (numberOf (firstOf rs)) 0)
+  where
+    by : (b : Bool) → part (cond b done (refused st store out (firstOf rs))) ≡ part (refused st store out (firstOf rs))
+    by true = e
+    by false = refl
 
 module _ (st : State) (store out : Bytes) (rs : Refusals) (done : Result) (is-done : done .answer ≡ Done) where
   pub decided-done : numberOf (decided st store out rs done .answer) ≡ 0 → (decided st store out rs done ≡ done) × (numberOf (firstOf rs) ≡ 0)
@@ -41,33 +53,61 @@ looked-done st store label = by (firstOf (lookupRefusals st store label)) (eqb (
     by a true e h = (refl, eqb-true _ 0 e)
     by a false e h = absurd (false≢true (sym e ∙ eq-eqb _ 0 h))
 
+-- ---- calls that only read: "a listing, a lookup ... changes neither", accepted or not
+
+-- the buffer lent past the used bytes, what the call leaves, and that an accepted one found no damage
+pub record OnlyReads (h : Held) (i : Input) : Type 0 where
+  pub past : Bytes
+  pub state-is : resultOf h i .state ≡ h .state
+  pub store-is : resultOf h i .store ≡ h .used ++ past
+  pub judged : answerOf h i ≡ 0 → damaged (h .state) (h .used ++ past) ≡ false
+
+pub list-reads : (h : Held) (past out : Bytes) → OnlyReads h (listInput past out)
+unfolding resultOf listResult
+list-reads h past out =
+    let store : Bytes = h .used ++ past in
+    let rs : Refusals = listRefusals (h .state) store out in
+    let done : Result = listDone (h .state) store out in
+    record {
+      past = past;
+      state-is = decided-either (h .state) store out rs done (λ r. r .state) refl;
+      store-is = decided-either (h .state) store out rs done (λ r. r .store) refl;
+      judged = λ acc. none-holds rs (search needs) (decided-done (h .state) store out rs done refl acc .1) .0;
+    }
+
+pub lookup-reads : (h : Held) (label past : Bytes) → OnlyReads h (lookupInput label past)
+unfolding resultOf
+lookup-reads h label past =
+    let store : Bytes = h .used ++ past in
+    record {
+      past = past;
+      state-is = refl;
+      store-is = refl;
+      judged = λ acc. none-holds (lookupRefusals (h .state) store label) (search needs) (looked-done (h .state) store label acc .1) .0;
+    }
+
+-- ---- what is held
+
 -- what is held is the used bytes, no more and no less
 abbrev pub Sized : Held → Type 0
 Sized h = length (h .used) ≡ h .state .used
 
 module _ (h : Held) (sized : Sized h) where
-  kept : (past out : Bytes) (a : Answer) → heldAfter (refused (h .state) (h .used ++ past) out a) ≡ h
-  kept past out a = ap (λ used. record { state = h .state; used = used }) (take-at (h .used) past (h .state .used) sized)
+  -- state and store are as they were
+  kept : (past : Bytes) (r : Result) → r .state ≡ h .state → r .store ≡ h .used ++ past → heldAfter r ≡ h
+  kept past r e f = rw (e, f) (ap (λ used. record { state = h .state; used = used }) (take-at (h .used) past (h .state .used) sized))
 
   kept-by : (past out : Bytes) (rs : Refusals) (done : Result) → done .answer ≡ Done
       → (numberOf (decided (h .state) (h .used ++ past) out rs done .answer) ≡ 0 → ⊥)
       → heldAfter (decided (h .state) (h .used ++ past) out rs done) ≡ h
-  kept-by past out rs done d ref = ap heldAfter (decided-refused (h .state) (h .used ++ past) out rs done d ref) ∙ kept past out (firstOf rs)
+  kept-by past out rs done d ref = ap heldAfter (decided-refused (h .state) (h .used ++ past) out rs done d ref) ∙ kept past (refused (h .state) (h .used ++ past) out (firstOf rs)) refl refl
 
-  -- "a listing, a lookup ... changes neither", accepted or not
-  pub lookup-keeps : (label past : Bytes) → step h (lookupInput label past) ≡ h
-  unfolding resultOf
-  lookup-keeps label past = kept past [] (lookupResult (h .state) (h .used ++ past) label .answer)
-
-  pub listing-keeps : (past out : Bytes) → answerOf h (listInput past out) ≡ 0 → step h (listInput past out) ≡ h
-  unfolding resultOf listResult
-  listing-keeps past out acc =
-      let store : Bytes = h .used ++ past in
-      ap heldAfter (decided-done (h .state) store out (listRefusals (h .state) store out) (listDone (h .state) store out) refl acc .0) ∙ kept past [] Done
+  pub reading-keeps : (i : Input) → OnlyReads h i → step h i ≡ h
+  reading-keeps i r = kept (r .past) (resultOf h i) (r .state-is) (r .store-is)
 
   -- "Every refusal changes no state": of each of the calls
   pub refused-keeps : (i : Input) → (answerOf h i ≡ 0 → ⊥) → step h i ≡ h
-  unfolding resultOf ownAddResult ownRemoveResult takeInResult listResult compactResult
+  unfolding resultOf ownAddResult ownRemoveResult takeInResult compactResult
   refused-keeps (addInput label context past out) ref =
       let store : Bytes = h .used ++ past in
       kept-by past out (ownAddRefusals (h .state) store label context out) (ownAddDone (h .state) store label context out) refl ref
@@ -77,10 +117,8 @@ module _ (h : Held) (sized : Sized h) where
   refused-keeps (messageInput message past) ref =
       let store : Bytes = h .used ++ past in
       kept-by past [] (takeInRefusals (h .state) store message) (takeInDone (h .state) store message) refl ref
-  refused-keeps (listInput past out) ref =
-      let store : Bytes = h .used ++ past in
-      kept-by past out (listRefusals (h .state) store out) (listDone (h .state) store out) refl ref
-  refused-keeps (lookupInput label past) ref = lookup-keeps label past
+  refused-keeps (listInput past out) ref = reading-keeps (listInput past out) (list-reads h past out)
+  refused-keeps (lookupInput label past) ref = reading-keeps (lookupInput label past) (lookup-reads h label past)
   refused-keeps (compactInput past) ref =
       let store : Bytes = h .used ++ past in
       kept-by past [] (compactRefusals (h .state) store) (compactDone (h .state) store) refl ref

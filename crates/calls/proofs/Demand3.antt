@@ -1,24 +1,24 @@
 -- Demand 3, proved: the machine's theorem, read through the bytes. Assumes nothing.
 use mathlib.Core.Path.{_≡_, refl, sym, ap, _∙_, subst}
-use mathlib.Core.Logic.{_↔_, inl}
+use mathlib.Core.Logic.{_↔_}
 use mathlib.Core.Bool.{Bool, true, false, cond}
-use mathlib.Core.List.{List, [], _∷_, _++_, map, flatMap, cons≢nil, List·Memᴰ·head, List·Memᴰ·not-nil, Memᴰ·map, Memᴰ·of-map}
+use mathlib.Core.List.{List, [], _∷_, _++_, map, flatMap, cons≢nil, List·Memᴰ·head, List·Memᴰ·not-nil, Memᴰ·append-left, Memᴰ·map, Memᴰ·of-map}
 use lib.Dec.{T}
 use lib.ListN.{length}
 use Rattle.wire.specs.Lists.{_∈_, SameMembers, keep, insertAll}
 use Rattle.wire.specs.Bytes.{Bytes}
-use Rattle.wire.proofs.Lists.{member-append, flatMap-mono}
 use Rattle.dots.specs.declared.Actor.{Actor}
 use Rattle.dots.specs.Names.{Name}
 use Rattle.dots.specs.Dots.{actorOf}
 use Rattle.dots.specs.Entries.{Entry, lineLabels}
-use Rattle.dots.specs.Message.{Message, pairsOf}
+use Rattle.dots.specs.Message.{Message}
 use Rattle.messages.specs.Read.{messageOf}
 use Rattle.store.specs.Cut.{storeBytes}
 use Rattle.listing.specs.Listing.{listingBytes}
 use Rattle.replica.specs.Machine.{compact, effect, listing, found, messagesOf as machineMessages}
 use Rattle.replica.specs.Rule.{History, noHistory, noted, historyFrom, pairs, livePairs, ruleListing, OneLabelPerDot}
-use Rattle.replica.specs.Demand3.{run as runMachine, events as eventsMachine, traffic as trafficMachine, Follows as MachineFollows, Agree as MachineAgree}
+use Rattle.replica.specs.Demand3.{Life, endOf as lifeEnd, accepted, trafficOf as lifeTraffic, Follows as MachineFollows, Agree as MachineAgree}
+use Rattle.replica.proofs.Listings.{fewer}
 use Rattle.replica.proofs.RowClock.{controllers-follow, controllers-agree}
 use Rattle.calls.specs.State.{clockModel, nameOf, view}
 use Rattle.calls.specs.Calls.{Result, Looked, listRefusals, listDone, listResult, lookupResult}
@@ -62,14 +62,14 @@ follows-held : (name : Name) (ms : List Message) (x : SizedHeld) → nameOf (x .
 unfolding view callOf
 follows-held name ms x n f = record {
   rule-means = f .rule-means;
-  listing-is = λ past out acc. listed-is (x .0) (x .1) past out acc .0 ∙ ap listingBytes (f .listing-is);
-  labels-are = λ past out acc. listed-is (x .0) (x .1) past out acc .1 ∙ ap length (f .listing-is);
-  lookup-is = λ label past acc. subst (λ b. T b ↔ (label ∈ lineLabels (ruleListing ms))) (sym (looked-is (x .0) (x .1) label past acc)) (f .lookup-is label);
+  listing-is = λ single past out acc. listed-is (x .0) (x .1) past out acc .0 ∙ ap listingBytes (f .listing-is single);
+  labels-are = λ single past out acc. listed-is (x .0) (x .1) past out acc .1 ∙ ap length (f .listing-is single);
+  lookup-is = λ single label past acc. subst (λ b. T b ↔ (label ∈ lineLabels (ruleListing ms))) (sym (looked-is (x .0) (x .1) label past acc)) (f .lookup-is single label);
   clock-is = f .clock-is;
-  compaction-is = λ past acc.
+  compaction-is = λ single past acc.
       compacted-used (x .0) (x .1) past acc
       ∙ ap (λ m. storeBytes m (viewOf (step (x .0) (compactInput past)) .keys)) n
-      ∙ ap (storeBytes name) (f .compaction-is (compactInput past) (record { call-is = refl; done = acc }));
+      ∙ ap (storeBytes name) (f .compaction-is single (compactInput past) (record { call-is = refl; done = acc }));
 }
 
 -- of no entries, a set's keys are those of any other
@@ -78,23 +78,24 @@ unfolding storeBytes
 keys-of n n′ [] h = refl
 keys-of n n′ (e ∷ es) h = rw (h e (List·Memᴰ·head refl))
 
-agree-held : (x y : SizedHeld) → ((past : Bytes) → Accepted (x .0) (compactInput past) → (e : Entry) → e ∈ viewOf (step (x .0) (compactInput past)) .keys → nameOf (x .0 .state) ≡ nameOf (y .0 .state))
-    → MachineAgree clockModel controller x y → Agree (x .0) (y .0)
+agree-held : (ms : List Message) (x y : SizedHeld)
+    → (OneLabelPerDot (pairs ms) → (past : Bytes) → Accepted (x .0) (compactInput past) → (e : Entry) → e ∈ viewOf (step (x .0) (compactInput past)) .keys → nameOf (x .0 .state) ≡ nameOf (y .0 .state))
+    → MachineAgree clockModel controller ms x y → Agree ms (x .0) (y .0)
 unfolding view callOf
-agree-held x y n a = record {
-  same-listing = λ past out past′ out′ acc acc′.
+agree-held ms x y n a = record {
+  same-listing = λ single past out past′ out′ acc acc′.
       let p = listed-is (x .0) (x .1) past out acc in
       let q = listed-is (y .0) (y .1) past′ out′ acc′ in
-      (p .0 ∙ ap listingBytes (a .same-listing) ∙ sym (q .0), p .1 ∙ ap length (a .same-listing) ∙ sym (q .1));
+      (p .0 ∙ ap listingBytes (a .same-listing single) ∙ sym (q .0), p .1 ∙ ap length (a .same-listing single) ∙ sym (q .1));
   same-clock = λ past past′ acc acc′. ap (λ w. record { words = w }) (a .same-clock (compactInput past) (compactInput past′) (record { call-is = refl; done = acc }) (record { call-is = refl; done = acc′ }));
-  same-store = λ past past′ acc acc′. (sizes past past′ (bytes past past′ acc acc′), bytes past past′ acc acc′);
+  same-store = λ single past past′ acc acc′. (sizes past past′ (bytes single past past′ acc acc′), bytes single past past′ acc acc′);
 }
   where
-    bytes : (past past′ : Bytes) → Accepted (x .0) (compactInput past) → Accepted (y .0) (compactInput past′) → step (x .0) (compactInput past) .used ≡ step (y .0) (compactInput past′) .used
-    bytes past past′ acc acc′ =
+    bytes : OneLabelPerDot (pairs ms) → (past past′ : Bytes) → Accepted (x .0) (compactInput past) → Accepted (y .0) (compactInput past′) → step (x .0) (compactInput past) .used ≡ step (y .0) (compactInput past′) .used
+    bytes single past past′ acc acc′ =
         compacted-used (x .0) (x .1) past acc
-        ∙ keys-of (nameOf (x .0 .state)) (nameOf (y .0 .state)) (viewOf (step (x .0) (compactInput past)) .keys) (n past acc)
-        ∙ ap (storeBytes (nameOf (y .0 .state))) (a .same-keys (compactInput past) (compactInput past′) (record { call-is = refl; done = acc }) (record { call-is = refl; done = acc′ }))
+        ∙ keys-of (nameOf (x .0 .state)) (nameOf (y .0 .state)) (viewOf (step (x .0) (compactInput past)) .keys) (n single past acc)
+        ∙ ap (storeBytes (nameOf (y .0 .state))) (a .same-keys single (compactInput past) (compactInput past′) (record { call-is = refl; done = acc }) (record { call-is = refl; done = acc′ }))
         ∙ sym (compacted-used (y .0) (y .1) past′ acc′)
 
     sizes : (past past′ : Bytes) → step (x .0) (compactInput past) .used ≡ step (y .0) (compactInput past′) .used → step (x .0) (compactInput past) .state .used ≡ step (y .0) (compactInput past′) .state .used
@@ -146,8 +147,12 @@ same-decoded xs ys same m = (over xs ys (λ s. same s .0), over ys xs (λ s. sam
 -- ---- the two claims
 
 module _ (c : Controlled) where
+  -- its life, as the machine has it
+  abbrev lifeOf : Life clockModel controller
+  lifeOf = record { actor = actorOf (c .actor); start = startOf c; fresh = start-view c; calls = c .calls }
+
   reached : SizedHeld
-  reached = runMachine clockModel controller (startOf c) (c .calls)
+  reached = lifeEnd clockModel controller lifeOf
 
   reached-is : reached .0 ≡ endOf c
   unfolding reached
@@ -156,35 +161,39 @@ module _ (c : Controlled) where
   reached-name : nameOf (reached .0 .state) ≡ c .name
   reached-name = ap (λ h. nameOf (h .state)) reached-is ∙ run-name (started (c .actor) (c .name)) (c .calls) ∙ start-name c
 
-  accepted-is : historyFrom (actorOf (c .actor)) noHistory (eventsMachine clockModel controller (startOf c) (c .calls)) .messages ≡ messagesOf c
+  accepted-is : accepted clockModel controller lifeOf ≡ messagesOf c
   accepted-is = ap (λ es. historyFrom (actorOf (c .actor)) noHistory es .messages) (events-same (startOf c) (c .calls))
 
-  machine-follows : OneLabelPerDot (pairs (messagesOf c)) → MachineFollows clockModel controller reached (messagesOf c)
+  machine-follows : MachineFollows clockModel controller reached (messagesOf c)
   unfolding reached
-  machine-follows single =
-      subst (λ ms. MachineFollows clockModel controller reached ms) accepted-is
-      (controllers-follow controller (actorOf (c .actor)) (startOf c) (start-view c) (c .calls) (subst (λ ms. OneLabelPerDot (pairs ms)) (sym accepted-is) single))
+  machine-follows = subst (λ ms. MachineFollows clockModel controller reached ms) accepted-is (controllers-follow controller lifeOf)
 
-demand3-follows : (c : Controlled) → OneLabelPerDot (pairs (messagesOf c)) → Follows (c .name) (messagesOf c) (endOf c)
-demand3-follows c single = subst (λ h. Follows (c .name) (messagesOf c) h) (reached-is c) (follows-held (c .name) (messagesOf c) (reached c) (reached-name c) (machine-follows c single))
+demand3-follows : (c : Controlled) → Follows (c .name) (messagesOf c) (endOf c)
+demand3-follows c = subst (λ h. Follows (c .name) (messagesOf c) h) (reached-is c) (follows-held (c .name) (messagesOf c) (reached c) (reached-name c) (machine-follows c))
 
--- of the first controller alone
-front-single : (ms ms′ : List Message) → OneLabelPerDot (pairs (ms ++ ms′)) → OneLabelPerDot (pairs ms)
-front-single ms ms′ single d l l′ p q = single d l l′ (flatMap-mono pairsOf (λ m k. member-append .1 (inl k)) _ p) (flatMap-mono pairsOf (λ m k. member-append .1 (inl k)) _ q)
+module _ (c d : Controlled) (same : SameMembers (trafficOf c) (trafficOf d)) where
+  abbrev both : List Message
+  both = messagesOf c ++ messagesOf d
 
-demand3-agree : (c d : Controlled) → SameMembers (trafficOf c) (trafficOf d) → OneLabelPerDot (pairs (messagesOf c ++ messagesOf d)) → Agree (endOf c) (endOf d)
-unfolding reached callOf
-demand3-agree c d same single =
-    let traffics : SameMembers (trafficMachine clockModel controller (startOf c) (c .calls)) (trafficMachine clockModel controller (startOf d) (d .calls)) =
-    rw (traffic-same (startOf c) (c .calls), traffic-same (startOf d) (d .calls)) (same-decoded (trafficOf c) (trafficOf d) same) in
-    let singles : OneLabelPerDot (pairs (historyFrom (actorOf (c .actor)) noHistory (eventsMachine clockModel controller (startOf c) (c .calls)) .messages
-    ++ historyFrom (actorOf (d .actor)) noHistory (eventsMachine clockModel controller (startOf d) (d .calls)) .messages)) =
-    rw (accepted-is c, accepted-is d) single in
-    let a = controllers-agree controller (actorOf (c .actor)) (actorOf (d .actor)) (startOf c) (startOf d) (start-view c) (start-view d) (c .calls) (d .calls) traffics singles in
-    let f = machine-follows c (front-single (messagesOf c) (messagesOf d) single) in
-    let names : (past : Bytes) → Accepted (reached c .0) (compactInput past) → (e : Entry) → e ∈ viewOf (step (reached c .0) (compactInput past)) .keys → nameOf (reached c .0 .state) ≡ nameOf (reached d .0 .state) =
-    λ past acc e k. reached-name c ∙ one-set c d same e (subst (λ es. e ∈ es) (f .compaction-is (compactInput past) (record { call-is = refl; done = acc })) k) ∙ sym (reached-name d) in
-    subst (λ h. Agree h (endOf d)) (reached-is c) (subst (λ k. Agree (reached c .0) k) (reached-is d) (agree-held (reached c) (reached d) names a))
+  machines-agree : MachineAgree clockModel controller both (reached c) (reached d)
+  unfolding reached
+  machines-agree =
+      let traffics : SameMembers (lifeTraffic clockModel controller (lifeOf c)) (lifeTraffic clockModel controller (lifeOf d)) =
+      rw (traffic-same (startOf c) (c .calls), traffic-same (startOf d) (d .calls)) (same-decoded (trafficOf c) (trafficOf d) same) in
+      subst (λ ms. MachineAgree clockModel controller ms (reached c) (reached d)) (λ i. accepted-is c i ++ accepted-is d i) (controllers-agree controller (lifeOf c) (lifeOf d) traffics)
+
+  -- where a compaction leaves a key, both are of one set
+  same-name : OneLabelPerDot (pairs both) → (past : Bytes) → Accepted (reached c .0) (compactInput past)
+      → (e : Entry) → e ∈ viewOf (step (reached c .0) (compactInput past)) .keys → nameOf (reached c .0 .state) ≡ nameOf (reached d .0 .state)
+  unfolding callOf
+  same-name single past acc e k =
+      let one : OneLabelPerDot (pairs (messagesOf c)) = fewer (λ m. Memᴰ·append-left (messagesOf d)) single in
+      let left = machine-follows c .compaction-is one (compactInput past) (record { call-is = refl; done = acc }) in
+      reached-name c ∙ one-set c d same e (subst (λ es. e ∈ es) left k) ∙ sym (reached-name d)
+
+  demand3-agree : Agree both (endOf c) (endOf d)
+  demand3-agree =
+      subst (λ h. Agree both h (endOf d)) (reached-is c) (subst (λ k. Agree both (reached c .0) k) (reached-is d) (agree-held both (reached c) (reached d) same-name machines-agree))
 
 pub demand-3 : Demand3
 demand-3 = record { follows = demand3-follows; agree = demand3-agree }

@@ -47,7 +47,7 @@ module _ (st : State) (m : Message) (ok : messageOk (nameOf st) m ≡ true) wher
         same-decided st′ store′ (takeInRefusals st′ store′ (messageBytes (nameOf st) m)) (receiverRefusals st′ store′ m) (takeInDone st′ store′ (messageBytes (nameOf st) m)) (performed st′ store′ [] (takeIn m) []) received
         (ap (λ (x : Message). performed st′ store′ [] (takeIn x) []) (read-written (nameOf st) m ok .2))
 
-  exchanged : (bytes : Bytes) → bytes ≡ messageBytes (nameOf st) m → Exchanged st m bytes
+  pub exchanged : (bytes : Bytes) → bytes ≡ messageBytes (nameOf st) m → Exchanged st m bytes
   unfolding written
   exchanged bytes e =
       let r = read-written (nameOf st) m ok in

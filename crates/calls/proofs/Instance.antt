@@ -12,12 +12,12 @@ use Rattle.dots.specs.Message.{Message, add}
 use Rattle.dots.specs.Wire.{dotsOf}
 use Rattle.messages.specs.Read.{nameOf as messageName, messageOf}
 use Rattle.messages.proofs.RoundTrip.{read-written}
-use Rattle.replica.specs.Machine.{Controller, nextDot, effect, exchanged, allowed, messagesOf, compact, compacted}
+use Rattle.replica.specs.Machine.{Controller, nextDot, effect, exchanged, allowed, messagesOf, reads, compact, compacted}
 use Rattle.calls.specs.State.{clockModel, nameOf, view}
 use Rattle.calls.specs.Calls.{performed, addWritten, addDot, removeWritten}
 use Rattle.calls.specs.Sequence.{Input, addInput, removeInput, messageInput, listInput, lookupInput, compactInput, Held, resultOf, answerOf, heldAfter, step, output, callOf, messageBytesOf}
 use Rattle.calls.proofs.Reading.{view-past, viewOf, performed-sized, performed-view}
-use Rattle.calls.proofs.Decided.{Sized, refused-keeps, listing-keeps, lookup-keeps}
+use Rattle.calls.proofs.Decided.{OnlyReads, list-reads, lookup-reads, Sized, reading-keeps, refused-keeps}
 use Rattle.calls.proofs.Validity.{compacted-rules}
 use Rattle.calls.proofs.Clauses.{view-rules}
 use Rattle.calls.proofs.Applied.{applied-view}
@@ -100,18 +100,26 @@ module _ (h : Held) (sized : Sized h) (past : Bytes) where
       let rules = compacted-rules (view (h .state) store) (view-rules (h .state) store (w .whole)) in
       works (compactInput past) [] [] (w .result-is) (performed-view (h .state) store [] compact [] refl rules) tt refl (λ s k. absurd (List·Memᴰ·not-nil k))
 
-  -- a call that leaves all as it was, and exchanges nothing
-  idle : (i : Input) → step h i ≡ h → viewOf h ≡ effect clockModel (viewOf h) (callOf i)
-      → messages h i ≡ exchanged clockModel (viewOf h) (callOf i) → T (allowed clockModel (viewOf h) (callOf i)) → ((s : Bytes) → s ∈ messageBytesOf h i → ⊥) → IsMachine h i
-  idle i same e x a none = record { does = ap viewOf same ∙ e; sized-after = subst Sized (sym same) sized; exchanges = x; guarded = a; named = λ s k. absurd (none s k) }
+-- a call that only reads leaves all as it was, and exchanges nothing
+reading-is : (h : Held) → Sized h → (i : Input) → OnlyReads h i → callOf i ≡ reads → messageBytesOf h i ≡ [] → IsMachine h i
+unfolding effect messagesOf allowed
+reading-is h sized i r call none =
+    let same = reading-keeps h sized i r in
+    record {
+      does = ap viewOf same ∙ ap (effect clockModel (viewOf h)) (sym call);
+      sized-after = subst Sized (sym same) sized;
+      exchanges = ap (map messageOf) none ∙ ap (exchanged clockModel (viewOf h)) (sym call);
+      guarded = subst (λ c. T (allowed clockModel (viewOf h) c)) (sym call) tt;
+      named = λ s k. absurd (List·Memᴰ·not-nil (subst (λ ss. s ∈ ss) none k));
+    }
 
 pub is-machine : (h : Held) → Sized h → (i : Input) → answerOf h i ≡ 0 → IsMachine h i
-unfolding callOf effect messageBytesOf messagesOf allowed
+unfolding callOf messageBytesOf
 is-machine h sized (addInput label context past out) acc = add-is h sized past label context out acc
 is-machine h sized (removeInput context past out) acc = remove-is h sized past context out acc
 is-machine h sized (messageInput message past) acc = take-in-is h sized past message acc
-is-machine h sized (listInput past out) acc = idle h sized past (listInput past out) (listing-keeps h sized past out acc) refl refl tt (λ s k. List·Memᴰ·not-nil k)
-is-machine h sized (lookupInput label past) acc = idle h sized past (lookupInput label past) (lookup-keeps h sized label past) refl refl tt (λ s k. List·Memᴰ·not-nil k)
+is-machine h sized (listInput past out) acc = reading-is h sized (listInput past out) (list-reads h past out) refl refl
+is-machine h sized (lookupInput label past) acc = reading-is h sized (lookupInput label past) (lookup-reads h label past) refl refl
 is-machine h sized (compactInput past) acc = compact-is h sized past acc
 
 pub step-sized : (h : Held) → Sized h → (i : Input) → Sized (step h i)

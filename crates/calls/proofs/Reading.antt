@@ -10,7 +10,7 @@ use Rattle.wire.specs.Lists.{all}
 use Rattle.wire.specs.Bytes.{Bytes}
 use Rattle.dots.specs.declared.Dot.{Dot}
 use Rattle.dots.specs.Dots.{dotOk}
-use Rattle.dots.specs.Wire.{dotsBytes, dotsOf}
+use Rattle.dots.specs.Wire.{dotsBytes, dotsOf, dotSize, tombstoneSize}
 use Rattle.dots.proofs.RoundTrip.{length-dots, dots-written}
 use Rattle.keys.specs.Entry.{entryOk}
 use Rattle.store.proofs.RoundTrip.{entries-written}
@@ -23,9 +23,9 @@ use Rattle.calls.specs.Sequence.{Held, heldAfter}
 use Rattle.calls.proofs.Validity.{Rules}
 use Rattle.calls.proofs.Decided.{Sized}
 
-pub tombstone-read : (ds : List Dot) → all dotOk ds ≡ true → dotsOf (take (length ds * 9) (padded 1152 (dotsBytes ds))) ≡ ds
+pub tombstone-read : (ds : List Dot) → all dotOk ds ≡ true → dotsOf (take (length ds * dotSize) (padded tombstoneSize (dotsBytes ds))) ≡ ds
 tombstone-read ds ok =
-    rw (take-at (dotsBytes ds) (replicate (1152 - length (dotsBytes ds)) 0) (length ds * 9) (omega (arith, length-dots ds))) (dots-written ds ok)
+    rw (take-at (dotsBytes ds) (replicate (tombstoneSize - length (dotsBytes ds)) 0) (length ds * dotSize) (omega (arith, length-dots ds))) (dots-written ds ok)
 
 -- the used part does not hang on the buffer past it
 pub view-past : (st : State) (used past : Bytes) → length used ≡ st .used → view st (used ++ past) ≡ view st used

@@ -3,14 +3,13 @@ use mathlib.Core.Path.{_≡_, refl, sym, ap, _∙_}
 use mathlib.Core.Logic.{⊎-elim}
 use mathlib.Core.Bool.{Bool, true, false, cond}
 use mathlib.Core.List.{List, [], _∷_, _++_, map, map-append, List·Memᴰ·not-nil}
-use lib.Dec.{eqb}
 use lib.ListN.{take}
 use lib.Seq.{take-append-seam}
 use borrow.Author.Tests.{eqb-true, eq-eqb}
 use Rattle.wire.specs.Lists.{_∈_}
 use Rattle.wire.specs.Bytes.{Bytes}
 use Rattle.wire.proofs.Lists.{member-append}
-use Rattle.dots.specs.Answer.{numberOf, Refusals, firstOf}
+use Rattle.dots.specs.Answer.{numberOf, Refusals}
 use Rattle.dots.specs.Dots.{actorOf}
 use Rattle.dots.specs.Wire.{dotsAt, dotsOf}
 use Rattle.messages.specs.Read.{nameOf as messageName, messageOf}
@@ -21,11 +20,11 @@ use Rattle.calls.specs.declared.State.{State}
 use Rattle.calls.specs.declared.SetName.{SetName}
 use Rattle.calls.specs.State.{clockModel, nameOf, view}
 use Rattle.calls.specs.Effect.{stateOf}
-use Rattle.calls.specs.Calls.{setUp, freshState, Result, refused, decided, ownAddRefusals, ownAddDone, ownAddResult, ownRemoveRefusals, ownRemoveDone, ownRemoveResult, takeInRefusals, takeInDone, takeInResult, listRefusals, listDone, listResult, compactRefusals, compactDone, compactResult}
+use Rattle.calls.specs.Calls.{setUp, freshState, Result, decided, ownAddRefusals, ownAddDone, ownAddResult, ownRemoveRefusals, ownRemoveDone, ownRemoveResult, takeInRefusals, takeInDone, takeInResult, compactRefusals, compactDone, compactResult}
 use Rattle.calls.specs.Sequence.{Input, addInput, removeInput, messageInput, listInput, lookupInput, compactInput, Held, started, resultOf, accepts, step, run, events, messageBytesOf, traffic}
 use Rattle.calls.specs.Demand3.{Controlled}
 use Rattle.calls.proofs.Reading.{viewOf}
-use Rattle.calls.proofs.Decided.{Sized}
+use Rattle.calls.proofs.Decided.{decided-either, list-reads, lookup-reads, Sized}
 use Rattle.calls.proofs.Instance.{is-machine, SizedHeld, stepped, controller}
 
 -- ---- what the machine's theorem calls a run is a run of the calls on bytes
@@ -54,14 +53,13 @@ traffic-same x (i ∷ is) =
 -- ---- the name stays
 
 decided-name : (st : State) (store out : Bytes) (rs : Refusals) (done : Result) → done .state .name ≡ st .name → decided st store out rs done .state .name ≡ st .name
-decided-name st store out rs done e = by (eqb (numberOf (firstOf rs)) 0)
-  where
-    by : (b : Bool) → cond b done (refused st store out (firstOf rs)) .state .name ≡ st .name
-    by true = e
-    by false = refl
+decided-name st store out rs done = decided-either st store out rs done (λ r. r .state .name)
+
+abbrev nameIn : State → SetName
+nameIn st = st .name
 
 step-name : (h : Held) (i : Input) → step h i .state .name ≡ h .state .name
-unfolding resultOf ownAddResult ownRemoveResult takeInResult listResult compactResult stateOf
+unfolding resultOf ownAddResult ownRemoveResult takeInResult compactResult stateOf
 step-name h (addInput label context past out) =
     let store : Bytes = h .used ++ past in
     decided-name (h .state) store out (ownAddRefusals (h .state) store label context out) (ownAddDone (h .state) store label context out) refl
@@ -71,10 +69,8 @@ step-name h (removeInput context past out) =
 step-name h (messageInput message past) =
     let store : Bytes = h .used ++ past in
     decided-name (h .state) store [] (takeInRefusals (h .state) store message) (takeInDone (h .state) store message) refl
-step-name h (listInput past out) =
-    let store : Bytes = h .used ++ past in
-    decided-name (h .state) store out (listRefusals (h .state) store out) (listDone (h .state) store out) refl
-step-name h (lookupInput label past) = refl
+step-name h (listInput past out) = ap nameIn (list-reads h past out .state-is)
+step-name h (lookupInput label past) = ap nameIn (lookup-reads h label past .state-is)
 step-name h (compactInput past) =
     let store : Bytes = h .used ++ past in
     decided-name (h .state) store [] (compactRefusals (h .state) store) (compactDone (h .state) store) refl

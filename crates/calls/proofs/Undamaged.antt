@@ -15,13 +15,13 @@ use Rattle.wire.proofs.Tests.{both, neither-left, neither-right, neither}
 use Rattle.dots.specs.declared.Dot.{Dot}
 use Rattle.dots.specs.Answer.{numberOf}
 use Rattle.dots.specs.Names.{Name, nameMost, nameOk, textOk}
-use Rattle.dots.specs.Dots.{actorOk, compareDots, ascendingDots}
-use Rattle.dots.specs.Wire.{dotsBytes, dotsAt, dotsOf}
+use Rattle.dots.specs.Dots.{actorOk, compareDots, ascendingDots, tombstoneMost}
+use Rattle.dots.specs.Wire.{dotsBytes, dotsAt, dotsOf, dotSize}
 use Rattle.dots.specs.Entries.{Entry, compareEntries}
 use Rattle.dots.proofs.Table.{none-holds}
 use Rattle.dots.proofs.Loops.{length-dotsOf}
 use Rattle.clock.specs.Row.{windowWidth}
-use Rattle.clock.specs.Clock.{clockOk}
+use Rattle.clock.specs.Clock.{clockOk, zeroClock, clockWords}
 use Rattle.clock.proofs.Clocks.{row-empty, zero-formed, rows-tested}
 use Rattle.keys.specs.Entry.{entryKey}
 use Rattle.store.specs.Cut.{storeBytes, keysAfter}
@@ -29,13 +29,13 @@ use Rattle.store.specs.Valid.{storeMost, storeOk, usedOk}
 use Rattle.replica.specs.Machine.{Call, live, droppedDots, apply, compact, compacted, effect}
 use Rattle.calls.specs.declared.State.{State}
 use Rattle.calls.specs.State.{clockModel, Machine, nameOf, tombstoneDots, entries, view}
-use Rattle.calls.specs.Damage.{tombstoneMost, tombstoneOk, stateNameOk, damaged}
+use Rattle.calls.specs.Damage.{tombstoneOk, stateNameOk, damaged}
 use Rattle.calls.specs.Effect.{keysPart, stateOf}
 use Rattle.calls.specs.Refusals.{badActor, badName, storeFull}
-use Rattle.calls.specs.Calls.{setUp, freshState, setUpRefusals, Result, performed, addWritten, removeWritten, listRefusals, listDone, listResult, lookupRefusals}
+use Rattle.calls.specs.Calls.{setUp, freshState, setUpRefusals, Result, performed, addWritten, removeWritten}
 use Rattle.calls.specs.Sequence.{Input, addInput, removeInput, messageInput, listInput, lookupInput, compactInput, Held, started, resultOf, answerOf, step, run}
 use Rattle.calls.specs.Demand3.{Accepted, Controlled, endOf}
-use Rattle.calls.proofs.Decided.{decided-done, looked-done, Sized, refused-keeps}
+use Rattle.calls.proofs.Decided.{OnlyReads, list-reads, lookup-reads, Sized, refused-keeps}
 use Rattle.calls.proofs.Clauses.{Undamaged, undamaged, not-damaged, used-fits, entries-of}
 use Rattle.calls.proofs.Applied.{Applies, applied-actor}
 use Rattle.calls.proofs.Accepted.{add-accepted, remove-accepted, compact-accepted}
@@ -49,7 +49,7 @@ use Rattle.calls.proofs.Whole.{Whole, view-whole, apply-whole, compacte
 -- what a call leaves: a state that is not damaged, whose clock has its 32 words
 pub record Left (r : Result) : Type 0 where
   pub whole : Undamaged (r .state) (r .store)
-  pub words : length (r .state .clock .words) ≡ 32
+  pub words : length (r .state .clock .words) ≡ clockWords
 
 keep-length : {A : Type 0} (p : A → Bool) (xs : List A) → length (keep p xs) ≤ length xs
 unfolding keep
@@ -78,9 +78,9 @@ module _ (st : State) (store : Bytes) (u : Undamaged st store) where
   tombstone-short =
       let t = u .tombstone in
       let most : st .tombstone .count ≤ tombstoneMost = leb-true _ _ (search both) in
-      omega (arith, length-dotsOf (take (st .tombstone .count * 9) (st .tombstone .bytes)), length-take (st .tombstone .count * 9) (st .tombstone .bytes))
+      omega (arith, length-dotsOf (take (st .tombstone .count * dotSize) (st .tombstone .bytes)), length-take (st .tombstone .count * dotSize) (st .tombstone .bytes))
 
-  module _ (words : length (st .clock .words) ≡ 32) (out message : Bytes) where
+  module _ (words : length (st .clock .words) ≡ clockWords) (out message : Bytes) where
     applied-leaves : (call : Call) → Applies st store call → Left (performed st store out call message)
     unfolding view apply stateOf
     applied-leaves call a =
@@ -106,8 +106,14 @@ module _ (st : State) (store : Bytes) (u : Undamaged st store) where
 
 -- ---- every call
 
-accepted-leaves : (h : Held) (i : Input) → length (h .state .clock .words) ≡ 32 → Accepted h i → Left (resultOf h i)
-unfolding resultOf listResult
+reading-leaves : (h : Held) (i : Input) → OnlyReads h i → length (h .state .clock .words) ≡ clockWords → Accepted h i → Left (resultOf h i)
+reading-leaves h i r words acc = record {
+  whole = rw (r .state-is, r .store-is) (undamaged (h .state) (h .used ++ r .past) (r .judged acc));
+  words = rw (r .state-is) words;
+}
+
+accepted-leaves : (h : Held) (i : Input) → length (h .state .clock .words) ≡ clockWords → Accepted h i → Left (resultOf h i)
+unfolding resultOf
 accepted-leaves h (addInput label context past out) words acc =
     let store : Bytes = h .used ++ past in
     let w = add-accepted (h .state) store label context out acc in
@@ -119,21 +125,14 @@ accepted-leaves h (removeInput context past out) words acc =
 accepted-leaves h (messageInput message past) words acc =
     let w = take-in-accepted (h .state) (h .used ++ past) message acc in
     subst Left (sym (w .result-is)) (applied-leaves (h .state) (h .used ++ past) (w .applies .whole) words [] [] _ (w .applies))
-accepted-leaves h (listInput past out) words acc =
-    let store : Bytes = h .used ++ past in
-    let d = decided-done (h .state) store out (listRefusals (h .state) store out) (listDone (h .state) store out) refl acc in
-    let passed = none-holds (listRefusals (h .state) store out) (search needs) (d .1) in
-    subst Left (sym (d .0)) (record { whole = undamaged (h .state) store (passed .0); words = words })
-accepted-leaves h (lookupInput label past) words acc =
-    let store : Bytes = h .used ++ past in
-    let passed = none-holds (lookupRefusals (h .state) store label) (search needs) (looked-done (h .state) store label acc .1) in
-    record { whole = undamaged (h .state) store (passed .0); words = words }
+accepted-leaves h (listInput past out) words acc = reading-leaves h (listInput past out) (list-reads h past out) words acc
+accepted-leaves h (lookupInput label past) words acc = reading-leaves h (lookupInput label past) (lookup-reads h label past) words acc
 accepted-leaves h (compactInput past) words acc =
     let w = compact-accepted (h .state) (h .used ++ past) acc in
     subst Left (sym (w .result-is)) (compacted-leaves (h .state) (h .used ++ past) (w .whole) words [] [])
 
 -- of any state whose clock has 32 words, and any store
-pub accepted-undamaged : (h : Held) (i : Input) → length (h .state .clock .words) ≡ 32 → Accepted h i → damaged (resultOf h i .state) (resultOf h i .store) ≡ false
+pub accepted-undamaged : (h : Held) (i : Input) → length (h .state .clock .words) ≡ clockWords → Accepted h i → damaged (resultOf h i .state) (resultOf h i .store) ≡ false
 accepted-undamaged h i words acc = not-damaged _ _ (accepted-leaves h i words acc .whole)
 
 -- ---- every state reached
@@ -157,7 +156,7 @@ other-buffer st store past u short =
 -- what is held is undamaged in any buffer that is not too long
 pub record Sound (h : Held) : Type 0 where
   pub sized : Sized h
-  pub words : length (h .state .clock .words) ≡ 32
+  pub words : length (h .state .clock .words) ≡ clockWords
   pub whole : (past : Bytes) → length (h .used ++ past) ≤ storeMost → Undamaged (h .state) (h .used ++ past)
 
 step-sound : (h : Held) → Sound h → (i : Input) → Sound (step h i)
@@ -182,12 +181,12 @@ module _ (actor : ℕ) (name : Name) (past : Bytes) (ok : actorOk actor ≡ true
   fresh-name : stateNameOk (freshState actor name) ≡ true
   unfolding stateNameOk
   fresh-name =
-      let rest : Bytes = replicate (16 - length name) 0 in
-      rw (name-short, take-append-seam name rest, named, drop-append-seam name rest) (all-zero (16 - length name))
+      let rest : Bytes = replicate (nameMost - length name) 0 in
+      rw (name-short, take-append-seam name rest, named, drop-append-seam name rest) (all-zero (nameMost - length name))
 
-  fresh-clock : clockOk windowWidth actor (replicate 32 0) ≡ true
+  fresh-clock : clockOk windowWidth actor zeroClock ≡ true
   unfolding clockOk
-  fresh-clock = rw (rows-tested windowWidth (replicate 32 0) (λ a. rw (row-empty a) (zero-formed windowWidth)), row-empty actor)
+  fresh-clock = rw (rows-tested windowWidth zeroClock (λ a. rw (row-empty a) (zero-formed windowWidth)), row-empty actor)
 
   fresh-undamaged : Undamaged (freshState actor name) past
   unfolding tombstoneOk ascendingDots dotsOf dotsAt dotsBytes storeOk usedOk keysAfter all ascends

@@ -1,6 +1,6 @@
 -- The rules of an undamaged state, as rules of its machine: calls keep them, and a machine that keeps them is written back undamaged. Assumes nothing.
 use Prim.Native.Nat.{ℕ, suc, zero, _+_, _-_, _*_, _≤_, Ordering, Ordering·lt, Ordering·eq, Ordering·gt}
-use mathlib.Core.Path.{_≡_, refl}
+use mathlib.Core.Path.{_≡_, refl, ap₂}
 use mathlib.Core.Logic.{inl, inr, ⊎-elim}
 use mathlib.Core.Bool.{Bool, true, false, not}
 use mathlib.Core.List.{List, [], _∷_, Memᴰ·map}
@@ -11,18 +11,18 @@ use lib.Seq.{drop-at}
 use borrow.Author.Tests.{le-leb, eqb-true}
 use Rattle.wire.specs.Lists.{_∈_, keep, all, member, insert, place, consIf, Ascending}
 use Rattle.wire.specs.Bytes.{Bytes}
-use Rattle.wire.proofs.Tests.{both, pass, holds}
+use Rattle.wire.proofs.Tests.{both, both-left, both-right, pass, holds}
 use Rattle.wire.proofs.Lists.{member-append, keep-member, all-member, member-all, insertAll-member, ascending-insertAll, ascending-keep}
 use Rattle.dots.specs.declared.Dot.{Dot}
 use Rattle.dots.specs.Names.{Name}
-use Rattle.dots.specs.Dots.{Context, dotOf, compareDots, dotOk}
-use Rattle.dots.specs.Wire.{dotsBytes}
+use Rattle.dots.specs.Dots.{Context, dotOf, compareDots, dotOk, tombstoneMost}
+use Rattle.dots.specs.Wire.{dotsBytes, dotSize, tombstoneSize}
 use Rattle.dots.specs.Entries.{Entry, entryDot, compareEntries}
 use Rattle.dots.proofs.Orders.{dots, entries}
 use Rattle.dots.proofs.Rules.{ascending-up, up-ascending}
 use Rattle.dots.proofs.RoundTrip.{length-dots}
 use Rattle.clock.specs.Row.{windowWidth}
-use Rattle.clock.specs.Clock.{rowAt, sees, clockOk}
+use Rattle.clock.specs.Clock.{rowAt, sees, clockOk, clockWords}
 use Rattle.clock.proofs.Clocks.{Formed, rows-well, rows-tested}
 use Rattle.keys.specs.Entry.{entryOk, entryKey}
 use Rattle.store.specs.Cut.{storeBytes, endToEnd}
@@ -31,7 +31,7 @@ use Rattle.store.proofs.RoundTrip.{entries-used}
 use Rattle.replica.specs.Machine.{seen, joining, live, droppedDots, ownBase, apply, compacted}
 use Rattle.calls.specs.declared.State.{State}
 use Rattle.calls.specs.State.{clockModel, Machine, nameOf, tombstoneDots, entries as entriesOf, view}
-use Rattle.calls.specs.Damage.{zeroFrom, tombstoneMost, stateNameOk, tombstoneOk}
+use Rattle.calls.specs.Damage.{zeroFrom, stateNameOk, tombstoneOk}
 use Rattle.calls.specs.Effect.{padded, keysPart, stateOf, storeOf}
 use Rattle.calls.proofs.Reading.{tombstone-read, used-after}
 use Rattle.calls.proofs.Validity.{Rules, apply-rules, compacted-rules}
@@ -50,7 +50,7 @@ pub record Whole (m : Machine) : Type 0 where
 
 -- ---- an undamaged state's machine
 
-pub view-whole : (st : State) (store : Bytes) → Undamaged st store → length (st .clock .words) ≡ 32 → Whole (view st store)
+pub view-whole : (st : State) (store : Bytes) → Undamaged st store → length (st .clock .words) ≡ clockWords → Whole (view st store)
 unfolding view tombstoneOk clockOk
 view-whole st store u size =
     let used = entries-of st store u in
@@ -144,8 +144,14 @@ unfolding all
 all-zero zero = refl
 all-zero (suc n) = all-zero n
 
-zero-past : (ds : List Dot) → zeroFrom (length ds * 9) (padded 1152 (dotsBytes ds)) ≡ true
-zero-past ds = rw (drop-at (dotsBytes ds) (replicate (1152 - length (dotsBytes ds)) 0) (length ds * 9) (omega (arith, length-dots ds))) (all-zero (1152 - length (dotsBytes ds)))
+-- bytes that are 0
+pub zeros-are : (s : Bytes) → all (λ b. eqb b 0) s ≡ true → s ≡ replicate (length s) 0
+unfolding all
+zeros-are [] h = refl
+zeros-are (b ∷ s) h = ap₂ _∷_ (eqb-true b 0 (both-left (eqb b 0) (all (λ x. eqb x 0) s) h)) (zeros-are s (both-right (eqb b 0) (all (λ x. eqb x 0) s) h))
+
+zero-past : (ds : List Dot) → zeroFrom (length ds * dotSize) (padded tombstoneSize (dotsBytes ds)) ≡ true
+zero-past ds = rw (drop-at (dotsBytes ds) (replicate (tombstoneSize - length (dotsBytes ds)) 0) (length ds * dotSize) (omega (arith, length-dots ds))) (all-zero (tombstoneSize - length (dotsBytes ds)))
 
 module _ (st : State) (store : Bytes) (u : Undamaged st store) (m : Machine) (w : Whole m) (own : m .actor ≡ st .actor)
     (most : length (m .tombstone) ≤ tombstoneMost) (room : length (keysPart st m) ≤ length store) where

@@ -3,14 +3,14 @@ use Prim.Native.Nat.{ℕ, _+_}
 use mathlib.Core.Bool.{Bool, false, cond, _||_}
 use mathlib.Core.List.{List, [], _∷_, _++_}
 use lib.Dec.{isEq, eqb}
-use lib.ListN.{length, replicate}
+use lib.ListN.{length}
 use Rattle.wire.specs.Lists.{isLt, keep}
 use Rattle.wire.specs.Bytes.{Bytes, compareBytes}
 use Rattle.dots.specs.Answer.{numberOf, Refusals, firstOf}
 use Rattle.dots.specs.declared.Answer.{Answer}
 use Rattle.dots.specs.declared.Answer.the-variants.{Done, Damaged, BadName, BadDot, OtherSet, OwnAhead, CounterEnd, TooFar, TombstoneFull, StoreFull, OutputShort}
 use Rattle.dots.specs.declared.Dot.{Dot}
-use Rattle.dots.specs.Names.{Name}
+use Rattle.dots.specs.Names.{Name, nameMost}
 use Rattle.dots.specs.Dots.{actorOf}
 use Rattle.dots.specs.Wire.{dotsOf}
 use Rattle.dots.specs.Entries.{Entry, entry, Line}
@@ -26,6 +26,7 @@ use Rattle.calls.specs.State.{clockModel, Machine, nameOf, entries, view
 use Rattle.calls.specs.Damage.{damaged}
 use Rattle.calls.specs.Effect.{padded, tombstoneOf, stateOf, storeOf, putOut}
 use Rattle.calls.specs.Refusals.{badActor, badName, badLabel, badContext, hasDot, outputShort, otherSet, ownAhead, counterEnd, tooFar, tombstoneFull, storeFull}
+use Rattle.clock.specs.Clock.{zeroClock}
 
 -- ---- set-up
 
@@ -36,8 +37,8 @@ setUpRefusals actor name = (badActor actor || badName name, BadName) ∷ []
 abbrev pub freshState : ℕ → Name → State
 freshState actor name = record {
   actor = actorOf actor;
-  name = record { bytes = padded 16 name; len = length name };
-  clock = record { words = replicate 32 0 };
+  name = record { bytes = padded nameMost name; len = length name };
+  clock = record { words = zeroClock };
   tombstone = tombstoneOf [];
   used = 0;
 }

@@ -1,5 +1,5 @@
 -- The settled cases of document 01 (marked * there), as one table: set "R1", label "B7".
-use Prim.Native.Nat.{ℕ, zero, suc, _+_}
+use Prim.Native.Nat.{ℕ}
 use mathlib.Core.Bool.{true}
 use mathlib.Core.List.{List, [], _∷_}
 use mathlib.Core.Option.{some}
@@ -8,7 +8,7 @@ use lib.ListN.{replicate}
 use Rattle.wire.specs.Lists.{ascends}
 use Rattle.wire.specs.Bytes.{Bytes, compareBytes}
 use Rattle.dots.specs.declared.Dot.{Dot}
-use Rattle.dots.specs.Dots.{Context, actorOf, dotOf}
+use Rattle.dots.specs.Dots.{Context, actorOf, dotOf, consecutive}
 use Rattle.dots.specs.Wire.{dotsBytes}
 use Rattle.dots.specs.Entries.{entry}
 use Rattle.dots.specs.Message.{Message, add, remove}
@@ -26,8 +26,7 @@ dot a n = dotOf (actorOf a) n
 
 -- k dots of an actor, from counter n on
 abbrev pub dotsFrom : ℕ → ℕ → ℕ → List Dot
-dotsFrom a n zero = []
-dotsFrom a n (suc k) = dot a n ∷ dotsFrom a (n + 1) k
+dotsFrom a n k = consecutive (actorOf a) n k
 
 -- ---- calls, each with 64 bytes past the used store and for the output
 
@@ -83,19 +82,19 @@ shown h is =
 
 -- ---- expected bytes
 
-abbrev row : ℕ → ℕ → Row
+abbrev pub row : ℕ → ℕ → Row
 row base window = record { base = base; window = window }
 
 -- nine bytes of a dot whose counter is below 256
-abbrev nine : ℕ → ℕ → Bytes
+abbrev pub nine : ℕ → ℕ → Bytes
 nine a n = a ∷ 0x00 ∷ 0x00 ∷ 0x00 ∷ 0x00 ∷ 0x00 ∷ 0x00 ∷ 0x00 ∷ n ∷ []
 
 -- the listing of B7 with one dot
-abbrev onlyB7 : ℕ → ℕ → Bytes
+abbrev pub onlyB7 : ℕ → ℕ → Bytes
 onlyB7 a n = 0x02 ∷ 0x42 ∷ 0x37 ∷ 0x00 ∷ 0x01 ∷ nine a n
 
 -- the messages of A2's second add and of C1's remove
-abbrev a2 : Bytes
+abbrev pub a2 : Bytes
 a2 = 0x50 ∷ 0x54 ∷ 0x4C ∷ 0x00 ∷ 0x01 ∷ 0x61 ∷ 0x02 ∷ 0x52 ∷ 0x31 ∷ 0x02 ∷ 0x42 ∷ 0x37 ∷ 0x01 ∷ 0x00 ∷ 0x00 ∷ 0x00 ∷ 0x00 ∷ 0x00 ∷ 0x00 ∷ 0x00 ∷ 0x02 ∷ 0x01 ∷ nine 1 1
 
 abbrev c1 : Bytes

@@ -6,12 +6,13 @@ use lib.ListN.{drop}
 use Rattle.wire.specs.Lists.{all}
 use Rattle.wire.specs.Bytes.{Bytes}
 use Rattle.dots.specs.Names.{nameMost, nameOk}
-use Rattle.dots.specs.Dots.{actorOk, ascendingDots}
+use Rattle.dots.specs.Dots.{actorOk, ascendingDots, tombstoneMost}
 use Rattle.clock.specs.Row.{windowWidth}
 use Rattle.clock.specs.Clock.{sees, clockOk}
 use Rattle.store.specs.Valid.{storeOk}
 use Rattle.calls.specs.declared.State.{State}
 use Rattle.calls.specs.State.{nameOf, tombstoneDots}
+use Rattle.dots.specs.Wire.{dotSize}
 
 -- one state has one form: what is not in use is 0
 abbrev pub zeroFrom : ℕ → Bytes → Bool
@@ -21,15 +22,12 @@ zeroFrom n bytes = all (λ b. eqb b 0) (drop n bytes)
 unfoldable pub stateNameOk : State → Bool
 stateNameOk st = leb (st .name .len) nameMost && (nameOk (nameOf st) && zeroFrom (st .name .len) (st .name .bytes))
 
--- "0 to 128 dots, strictly ascending, each seen by the clock"
-abbrev pub tombstoneMost : ℕ
-tombstoneMost = 128
-
+-- "Tombstone: 0 to 128 dots, strictly ascending, each seen by the clock"
 unfoldable pub tombstoneOk : State → Bool
 tombstoneOk st =
     leb (st .tombstone .count) tombstoneMost
     && (ascendingDots (tombstoneDots st)
-    && (all (sees (st .clock .words)) (tombstoneDots st) && zeroFrom (st .tombstone .count * 9) (st .tombstone .bytes)))
+    && (all (sees (st .clock .words)) (tombstoneDots st) && zeroFrom (st .tombstone .count * dotSize) (st .tombstone .bytes)))
 
 -- actor, set name, clock (the own window included), tombstone; then "the store is longer than 65,536", its used length and its keys
 unfoldable pub damaged : State → Bytes → Bool

@@ -22,33 +22,34 @@ use Rattle.calls.specs.Sequence.{Input, listInput, lookupInput, compactI
 abbrev pub Accepted : Held → Input → Type 0
 Accepted h i = answerOf h i ≡ 0
 
--- what is held is as the rule says of the accepted messages, in a set of this name
+-- What is held is as the rule says of the accepted messages, in a set of this name. The proviso that no two adds give one dot to different labels
+-- stands in each field that needs it.
 pub record Follows (name : Name) (ms : List Message) (h : Held) : Type 0 where
   -- "The listing is then every label with a pair whose dot is not in the second set, with just those dots, in the order ... given"
   pub rule-means : IsListing ms (ruleListing ms)
   -- "and bytes given under Listing"
-  pub listing-is : (past out : Bytes) → Accepted h (listInput past out) → output (resultOf h (listInput past out)) ≡ listingBytes (ruleListing ms)
+  pub listing-is : OneLabelPerDot (pairs ms) → (past out : Bytes) → Accepted h (listInput past out) → output (resultOf h (listInput past out)) ≡ listingBytes (ruleListing ms)
   -- "the number of labels is the number of these"
-  pub labels-are : (past out : Bytes) → Accepted h (listInput past out) → resultOf h (listInput past out) .labels ≡ length (ruleListing ms)
+  pub labels-are : OneLabelPerDot (pairs ms) → (past out : Bytes) → Accepted h (listInput past out) → resultOf h (listInput past out) .labels ≡ length (ruleListing ms)
   -- lookup says yes "exactly if the listing has the label"
-  pub lookup-is : (label past : Bytes) → Accepted h (lookupInput label past)
+  pub lookup-is : OneLabelPerDot (pairs ms) → (label past : Bytes) → Accepted h (lookupInput label past)
       → T (lookupResult (h .state) (h .used ++ past) label .listed) ↔ (label ∈ lineLabels (ruleListing ms))
   -- "The clock then sees just the dots in either set"
   pub clock-is : (d : Dot) → T (sees (h .state .clock .words) d) ↔ (Paired ms d ⊎ (d ∈ removed ms))
   -- "and a compaction accepted next leaves just the keys of the pairs not removed"
-  pub compaction-is : (past : Bytes) → Accepted h (compactInput past) → step h (compactInput past) .used ≡ storeBytes name (livePairs ms)
+  pub compaction-is : OneLabelPerDot (pairs ms) → (past : Bytes) → Accepted h (compactInput past) → step h (compactInput past) .used ≡ storeBytes name (livePairs ms)
 
--- two controllers answer alike, and hold the same after "one accepted compaction on each as its next call"
-pub record Agree (h k : Held) : Type 0 where
+-- two controllers, ms being the messages of both, answer alike, and hold the same after "one accepted compaction on each as its next call"
+pub record Agree (ms : List Message) (h k : Held) : Type 0 where
   -- "Two accepted listings are equal when their bytes written and their numbers of labels are"
-  pub same-listing : (past out past′ out′ : Bytes) → Accepted h (listInput past out) → Accepted k (listInput past′ out′)
+  pub same-listing : OneLabelPerDot (pairs ms) → (past out past′ out′ : Bytes) → Accepted h (listInput past out) → Accepted k (listInput past′ out′)
       → (output (resultOf h (listInput past out)) ≡ output (resultOf k (listInput past′ out′)))
       × (resultOf h (listInput past out) .labels ≡ resultOf k (listInput past′ out′) .labels)
   -- "two clocks, when all 16 rows are"
   pub same-clock : (past past′ : Bytes) → Accepted h (compactInput past) → Accepted k (compactInput past′)
       → step h (compactInput past) .state .clock ≡ step k (compactInput past′) .state .clock
   -- "Two stores count as equal when their used lengths and used bytes are equal."
-  pub same-store : (past past′ : Bytes) → Accepted h (compactInput past) → Accepted k (compactInput past′)
+  pub same-store : OneLabelPerDot (pairs ms) → (past past′ : Bytes) → Accepted h (compactInput past) → Accepted k (compactInput past′)
       → (step h (compactInput past) .state .used ≡ step k (compactInput past′) .state .used)
       × (step h (compactInput past) .used ≡ step k (compactInput past′) .used)
 
@@ -68,7 +69,6 @@ trafficOf c = traffic (started (c .actor) (c .name)) (c .calls)
 abbrev pub endOf : Controlled → Held
 endOf c = run (started (c .actor) (c .name)) (c .calls)
 
--- the proviso: no two adds give one dot to different labels
 pub record Demand3 : Type 0 where
-  pub follows : (c : Controlled) → OneLabelPerDot (pairs (messagesOf c)) → Follows (c .name) (messagesOf c) (endOf c)
-  pub agree : (c d : Controlled) → SameMembers (trafficOf c) (trafficOf d) → OneLabelPerDot (pairs (messagesOf c ++ messagesOf d)) → Agree (endOf c) (endOf d)
+  pub follows : (c : Controlled) → Follows (c .name) (messagesOf c) (endOf c)
+  pub agree : (c d : Controlled) → SameMembers (trafficOf c) (trafficOf d) → Agree (messagesOf c ++ messagesOf d) (endOf c) (endOf d)

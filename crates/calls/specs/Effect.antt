@@ -4,7 +4,7 @@ use mathlib.Core.List.{List, _++_}
 use lib.ListN.{length, drop, replicate}
 use Rattle.wire.specs.Bytes.{Bytes}
 use Rattle.dots.specs.declared.Dot.{Dot}
-use Rattle.dots.specs.Wire.{dotsBytes}
+use Rattle.dots.specs.Wire.{dotsBytes, tombstoneSize}
 use Rattle.store.specs.Cut.{storeBytes}
 use Rattle.calls.specs.declared.State.{State}
 use Rattle.calls.specs.declared.Tombstone.{Tombstone}
@@ -15,7 +15,7 @@ abbrev pub padded : ℕ → Bytes → Bytes
 padded n bytes = bytes ++ replicate (n - length bytes) 0
 
 abbrev pub tombstoneOf : List Dot → Tombstone
-tombstoneOf ds = record { bytes = padded 1152 (dotsBytes ds); count = length ds }
+tombstoneOf ds = record { bytes = padded tombstoneSize (dotsBytes ds); count = length ds }
 
 -- the keys of the machine's entries, end to end
 abbrev pub keysPart : State → Machine → Bytes

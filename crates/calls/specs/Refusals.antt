@@ -8,7 +8,7 @@ use Rattle.wire.specs.Lists.{any, member}
 use Rattle.wire.specs.Bytes.{Bytes, compareBytes}
 use Rattle.dots.specs.declared.Dot.{Dot}
 use Rattle.dots.specs.Names.{Name, Label, nameOk, labelOk}
-use Rattle.dots.specs.Dots.{actorOk, maxCounter, compareDots, contextOk}
+use Rattle.dots.specs.Dots.{actorOk, maxCounter, compareDots, contextOk, tombstoneMost}
 use Rattle.dots.specs.Wire.{wholeDots, dotsOf}
 use Rattle.dots.specs.Entries.{Entry}
 use Rattle.clock.specs.Row.{windowWidth}
@@ -17,7 +17,6 @@ use Rattle.keys.specs.Entry.{entryKey}
 use Rattle.replica.specs.Machine.{Call, effect, ownBase, aboveOwnBase}
 use Rattle.calls.specs.declared.State.{State}
 use Rattle.calls.specs.State.{clockModel, nameOf, view}
-use Rattle.calls.specs.Damage.{tombstoneMost}
 
 -- 5: "set name, label, or an actor given to set-up ... breaks its rule"
 abbrev pub badActor : ℕ → Bool

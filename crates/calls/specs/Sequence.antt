@@ -12,7 +12,7 @@ use Rattle.dots.specs.Dots.{actorOf}
 use Rattle.dots.specs.Wire.{dotsOf}
 use Rattle.dots.specs.Message.{Message}
 use Rattle.messages.specs.Read.{messageOf}
-use Rattle.replica.specs.Machine.{Call, ownAdd, ownRemove, takeIn, list, lookup, compact}
+use Rattle.replica.specs.Machine.{Call, ownAdd, ownRemove, takeIn, reads, compact}
 use Rattle.replica.specs.Rule.{Event, noHistory, historyFrom}
 use Rattle.calls.specs.declared.State.{State}
 use Rattle.calls.specs.Calls.{setUp, Result, refused, ownAddResult, ownRemoveResult, takeInResult, listResult, lookupResult, compactResult}
@@ -64,8 +64,8 @@ unfoldable pub callOf : Input → Call
 callOf (addInput label context past out) = ownAdd label (dotsOf context)
 callOf (removeInput context past out) = ownRemove (dotsOf context)
 callOf (messageInput message past) = takeIn (messageOf message)
-callOf (listInput past out) = list
-callOf (lookupInput label past) = lookup label
+callOf (listInput past out) = reads
+callOf (lookupInput label past) = reads
 callOf (compactInput past) = compact
 
 -- "The rule reads the calls' arguments and which calls were accepted, nothing from clock, tombstone or store."

@@ -2,18 +2,13 @@
 
 // A set name: its first len bytes; the others are 0.
 pub struct SetName {
-    pub bytes: [u8; 16],
+    pub bytes: [u8; dots::NAME_MOST],
     pub len: usize,
-}
-
-// The clock: base and window of actor 1, those of actor 2, and so on.
-pub struct Clock {
-    pub words: [u64; 32],
 }
 
 // The tombstone: its first count dots, nine bytes each; the other bytes are 0.
 pub struct Tombstone {
-    pub bytes: [u8; 1152],
+    pub bytes: [u8; dots::TOMBSTONE_SIZE],
     pub count: usize,
 }
 
@@ -21,8 +16,16 @@ pub struct Tombstone {
 pub struct State {
     pub actor: dots::Actor,
     pub name: SetName,
-    pub clock: Clock,
+    pub clock: clock::Clock,
     pub tombstone: Tombstone,
+    pub used: usize,
+}
+
+// A state beside the arrays of its clock and its tombstone: these are lent where a state by value would be copied.
+pub struct Head {
+    pub actor: dots::Actor,
+    pub name: SetName,
+    pub count: usize,
     pub used: usize,
 }
 

@@ -14,9 +14,9 @@ use Rattle.calls.specs.declared.Outcome.{Outcome}
 use Rattle.calls.specs.declared.Listed.{Listed}
 use Rattle.calls.specs.Calls.{Result, notLooked, setUp, lookupResult}
 use Rattle.calls.specs.Promise as controller
-use Rattle.capi.specs.Block.{blockSize, stateBytes, stateIn}
+use Rattle.block.specs.Block.{blockSize, stateBytes, stateIn}
 use Rattle.capi.specs.Left.{packed, noBlock, onBlock, lookupLeft}
-use Rattle.capi.proofs.Blocks.{bytes-in-state}
+use Rattle.block.proofs.Blocks.{bytes-in-state}
 use Rattle.capi.specs.Promise.{SetsUp, Leaves, Changes, Lists, LooksUp}
 
 -- ---- bytes that are no block

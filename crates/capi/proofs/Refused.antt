@@ -9,9 +9,9 @@ use Rattle.wire.specs.Bytes.{Bytes, AreBytes}
 use Rattle.dots.specs.Answer.{numberOf, Refusals, firstOf}
 use Rattle.calls.specs.declared.State.{State}
 use Rattle.calls.specs.Calls.{Result, decided, ownAddRefusals, ownAddDone, ownAddResult, takeInRefusals, takeInDone, takeInResult, ownRemoveRefusals, ownRemoveDone, ownRemoveResult, listRefusals, listDone, listResult, compactRefusals, compactDone, compactResult}
-use Rattle.capi.specs.Block.{blockSize, stateIn}
+use Rattle.block.specs.Block.{blockSize, stateIn}
 use Rattle.capi.specs.Left.{Left, isBlock, onBlock, ownAddLeft, ownRemoveLeft, takeInLeft, listLeft, compactLeft}
-use Rattle.capi.proofs.Blocks.{bytes-in-state}
+use Rattle.block.proofs.Blocks.{bytes-in-state}
 
 pub record Kept (left : Left) (block store out : Bytes) : Type 0 where
   pub block-is : left .block ≡ block

@@ -13,7 +13,7 @@ use Rattle.keys.specs.Tests.{kindOf}
 use Rattle.keys.specs.Write.{writeRefusals}
 use Rattle.calls.specs.declared.State.{State}
 use Rattle.calls.specs.Calls.{Result, Looked, notLooked, ownAddResult, ownRemoveResult, takeInResult, listResult, lookupResult, compactResult}
-use Rattle.capi.specs.Block.{blockSize, stateBytes, stateIn}
+use Rattle.block.specs.Block.{blockSize, stateBytes, stateIn}
 
 pub record Left : Type 0 where
   -- the answer's number

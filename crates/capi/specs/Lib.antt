@@ -1,4 +1,3 @@
--- Block: a state in bytes, and back. Left: what each call leaves. Promise: what each call promises.
-pub mod Block
+-- Left: what each call leaves. Promise: what each call promises.
 pub mod Left
 pub mod Promise

@@ -1,4 +1,4 @@
--- What each call promises: one record that equates the answer's number, every lent byte and the counts with what the call leaves.
+-- The version, and what each call promises: one record that equates the answer's number, every lent byte and the counts with what the call leaves.
 use denote.Ref.{RefT}
 use Prim.Native.Nat.{ℕ}
 use mathlib.Core.Bool.{Bool, cond}
@@ -13,8 +13,12 @@ use Rattle.keys.specs.declared.KeyRead.{KeyRead}
 use Rattle.keys.specs.Key.{Key, keyBytes}
 use Rattle.messages.specs.declared.MessageRead.{MessageRead}
 use Rattle.calls.specs.Calls.{setUp}
-use Rattle.capi.specs.Block.{stateBytes, stateIn}
+use Rattle.block.specs.Block.{stateBytes, stateIn}
 use Rattle.capi.specs.Left.{Left, isBlock, lookupLeft, keyAnswer, keyWritten}
+
+-- the version of the interface: 100 times its major number and its minor number
+abbrev pub interfaceVersion : ℕ
+interfaceVersion = 100
 
 -- set-up: a refused one leaves the block of the state that is zero throughout
 pub record SetsUp (actor : ℕ) (name before after : Bytes) (r : ℕ) : Type 0 where

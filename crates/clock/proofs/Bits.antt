@@ -165,15 +165,6 @@ ones-width (suc k) w = go (w % 2) (ones-width k (w / 2))
     go zero h = omega arith
     go (suc d) h = omega arith
 
--- a run of low ones has one length
-pub ones-unique : (k w n : ℕ) → w < 2 ^ k → ((i : ℕ) → i < n → testBit w i ≡ true) → testBit w n ≡ false → trailingOnes k w ≡ n
-ones-unique k w n h set end = go (decLt (trailingOnes k w) n) (decLt n (trailingOnes k w))
-  where
-    go : Dec (trailingOnes k w < n) → Dec (n < trailingOnes k w) → trailingOnes k w ≡ n
-    go (yes l) m = absurd (false≢true (sym (ones-end k w h) ∙ set (trailingOnes k w) l))
-    go (no l) (yes m) = absurd (false≢true (sym end ∙ ones-set k w n m))
-    go (no l) (no m) = omega arith
-
 -- trailing ones are the trailing zeros of the complement
 pub ones-zeros : (k w : ℕ) → w < 2 ^ k → trailingOnes k w ≡ trailingZeros k (2 ^ k - 1 - w)
 unfolding trailingOnes trailingZeros

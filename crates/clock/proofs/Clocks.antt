@@ -10,7 +10,7 @@ use native.Mathlib.Numerals.{add-one}
 use native.Mathlib.Omega.{arith}
 use lib.Dec.{T, ltb, eqb}
 use lib.Pow.{pow-pos}
-use lib.ListN.{length, getD, set, replicate, length-set, getD-replicate, List·getD-eq-default}
+use lib.ListN.{length, getD, set, length-set, getD-replicate, List·getD-eq-default}
 use lib.Seq.{getD-set-same, getD-set-other, ext-getD}
 use borrow.Author.Tests.{eqb-true, lt-ltb, le-ltb, eq-eqb, ne-eqb}
 use Rattle.wire.specs.Lists.{_∈_, isLt, consIf, all, member, sort, Less, Ascending, ascendsFrom}
@@ -18,12 +18,12 @@ use Rattle.wire.proofs.Tests.{decided, both-ways, pass, holds, T-both, T-either
 use Rattle.wire.proofs.Lists.{all-member, member-all, insertAll-member, member-insertAll, ascending-insertAll}
 use Rattle.wire.proofs.Orders.{less-number, number-less, then-lt}
 use Rattle.dots.specs.declared.Dot.{Dot}
-use Rattle.dots.specs.Dots.{actorOf, dotOf, compareActors, compareCounters, compareDots, dotOk}
+use Rattle.dots.specs.Dots.{actorOf, dotOf, compareActors, compareCounters, compareDots, dotOk, actorMost}
 use Rattle.dots.proofs.Orders.{dots}
 use Rattle.dots.proofs.Rules.{Valid, valid}
 use Rattle.clock.specs.Row.{Row, seen, wellFormed, join}
 use Rattle.clock.specs.Offered.{known, tooFar, allInReach, joinAll as joinCounters}
-use Rattle.clock.specs.Clock.{zeroRow, rowAt, withRow, sees, allTo, rowsOk, joinDot, joinEach, countersOf, near}
+use Rattle.clock.specs.Clock.{zeroRow, rowAt, withRow, sees, allTo, rowsOk, joinDot, joinEach, countersOf, near, zeroClock, clockWords, rowWords}
 use Rattle.clock.specs.Reach.{Ready}
 use Rattle.clock.proofs.Bits.{testBit-high}
 use Rattle.clock.proofs.Rows.{WellFormed, formed, forms, row-eq, seen-zero, seen-past}
@@ -61,97 +61,97 @@ allTo-same (suc n) p q h = ap₂ (λ (x y : Bool). x && y) (allTo-same n p q h) 
 
 -- the row of actor i + 1, as the code finds it
 abbrev pub rowIn : List ℕ → ℕ → Row
-rowIn words i = record { base = getD words (i * 2) 0; window = getD words (i * 2 + 1) 0 }
+rowIn words i = record { base = getD words (i * rowWords) 0; window = getD words (i * rowWords + 1) 0 }
 
 abbrev pub withRowIn : List ℕ → ℕ → Row → List ℕ
-withRowIn words i r = set (set words (i * 2) (r .base)) (i * 2 + 1) (r .window)
+withRowIn words i r = set (set words (i * rowWords) (r .base)) (i * rowWords + 1) (r .window)
 
 module _ (words : List ℕ) where
-  pub row-in : (i : ℕ) → i < 16 → rowAt words (suc i) ≡ rowIn words i
+  pub row-in : (i : ℕ) → i < actorMost → rowAt words (suc i) ≡ rowIn words i
   unfolding rowAt
-  row-in i h = ap (λ (b : Bool). cond b (rowIn words i) zeroRow) (lt-ltb i 16 h)
+  row-in i h = ap (λ (b : Bool). cond b (rowIn words i) zeroRow) (lt-ltb i actorMost h)
 
-  pub with-in : (i : ℕ) (r : Row) → i < 16 → withRow words (suc i) r ≡ withRowIn words i r
+  pub with-in : (i : ℕ) (r : Row) → i < actorMost → withRow words (suc i) r ≡ withRowIn words i r
   unfolding withRow
-  with-in i r h = ap (λ (b : Bool). cond b (withRowIn words i r) words) (lt-ltb i 16 h)
+  with-in i r h = ap (λ (b : Bool). cond b (withRowIn words i r) words) (lt-ltb i actorMost h)
 
   -- an actor that is not from 1 to 16
-  pub row-none : (a : ℕ) → (a < 1) ⊎ (16 < a) → rowAt words a ≡ zeroRow
+  pub row-none : (a : ℕ) → (a < 1) ⊎ (actorMost < a) → rowAt words a ≡ zeroRow
   unfolding rowAt
   row-none zero h = refl
   row-none (suc i) (inl h) = absurd (omega arith)
-  row-none (suc i) (inr h) = ap (λ (b : Bool). cond b (rowIn words i) zeroRow) (le-ltb i 16 (omega arith))
+  row-none (suc i) (inr h) = ap (λ (b : Bool). cond b (rowIn words i) zeroRow) (le-ltb i actorMost (omega arith))
 
-  pub with-none : (a : ℕ) (r : Row) → (a < 1) ⊎ (16 < a) → withRow words a r ≡ words
+  pub with-none : (a : ℕ) (r : Row) → (a < 1) ⊎ (actorMost < a) → withRow words a r ≡ words
   unfolding withRow
   with-none zero r h = refl
   with-none (suc i) r (inl h) = absurd (omega arith)
-  with-none (suc i) r (inr h) = ap (λ (b : Bool). cond b (withRowIn words i r) words) (le-ltb i 16 (omega arith))
+  with-none (suc i) r (inr h) = ap (λ (b : Bool). cond b (withRowIn words i r) words) (le-ltb i actorMost (omega arith))
 
 pub length-withRow : (words : List ℕ) (a : ℕ) (r : Row) → length (withRow words a r) ≡ length words
 unfolding withRow
 length-withRow words zero r = refl
-length-withRow words (suc i) r = go (ltb i 16)
+length-withRow words (suc i) r = go (ltb i actorMost)
   where
     go : (b : Bool) → length (cond b (withRowIn words i r) words) ≡ length words
-    go true = length-set (set words (i * 2) (r .base)) (i * 2 + 1) (r .window) ∙ length-set words (i * 2) (r .base)
+    go true = length-set (set words (i * rowWords) (r .base)) (i * rowWords + 1) (r .window) ∙ length-set words (i * rowWords) (r .base)
     go false = refl
 
-pub row-same : (words : List ℕ) (a : ℕ) (r : Row) → length words ≡ 32 → 1 ≤ a → a ≤ 16 → rowAt (withRow words a r) a ≡ r
+pub row-same : (words : List ℕ) (a : ℕ) (r : Row) → length words ≡ clockWords → 1 ≤ a → a ≤ actorMost → rowAt (withRow words a r) a ≡ r
 row-same words zero r s h l = absurd (omega arith)
 row-same words (suc i) r s h l =
-    let words′ : List ℕ = set words (i * 2) (r .base) in
-    let size : length words′ ≡ 32 = length-set words (i * 2) (r .base) ∙ s in
-    let bases = getD-set-other words′ (i * 2 + 1) (i * 2) (r .window) 0 (λ e. omega arith) ∙ getD-set-same words (i * 2) (r .base) 0 (omega arith) in
-    let windows = getD-set-same words′ (i * 2 + 1) (r .window) 0 (omega arith) in
+    let words′ : List ℕ = set words (i * rowWords) (r .base) in
+    let size : length words′ ≡ clockWords = length-set words (i * rowWords) (r .base) ∙ s in
+    let bases = getD-set-other words′ (i * rowWords + 1) (i * rowWords) (r .window) 0 (λ e. omega arith) ∙ getD-set-same words (i * rowWords) (r .base) 0 (omega arith) in
+    let windows = getD-set-same words′ (i * rowWords + 1) (r .window) 0 (omega arith) in
     row-in (withRow words (suc i) r) i l ∙ ap (λ (v : List ℕ). rowIn v i) (with-in words i r l) ∙ row-eq bases windows
 
 pub row-other : (words : List ℕ) (a b : ℕ) (r : Row) → (b ≡ a → ⊥) → rowAt (withRow words a r) b ≡ rowAt words b
 unfolding rowAt withRow
 row-other words a zero r d = refl
 row-other words zero (suc j) r d = refl
-row-other words (suc i) (suc j) r d = ap (λ (x : Row). cond (ltb j 16) x zeroRow) (go (ltb i 16))
+row-other words (suc i) (suc j) r d = ap (λ (x : Row). cond (ltb j actorMost) x zeroRow) (go (ltb i actorMost))
   where
     words′ : List ℕ
-    words′ = set words (i * 2) (r .base)
+    words′ = set words (i * rowWords) (r .base)
 
     apart : j ≡ i → ⊥
     apart e = d (ap suc e)
 
-    at : (k : ℕ) → (k ≡ i * 2 + 1 → ⊥) → (k ≡ i * 2 → ⊥) → getD (withRowIn words i r) k 0 ≡ getD words k 0
-    at k f g = getD-set-other words′ (i * 2 + 1) k (r .window) 0 f ∙ getD-set-other words (i * 2) k (r .base) 0 g
+    at : (k : ℕ) → (k ≡ i * rowWords + 1 → ⊥) → (k ≡ i * rowWords → ⊥) → getD (withRowIn words i r) k 0 ≡ getD words k 0
+    at k f g = getD-set-other words′ (i * rowWords + 1) k (r .window) 0 f ∙ getD-set-other words (i * rowWords) k (r .base) 0 g
 
     go : (b : Bool) → rowIn (cond b (withRowIn words i r) words) j ≡ rowIn words j
-    go true = row-eq (at (j * 2) (λ e. apart (omega arith)) (λ e. apart (omega arith))) (at (j * 2 + 1) (λ e. apart (omega arith)) (λ e. apart (omega arith)))
+    go true = row-eq (at (j * rowWords) (λ e. apart (omega arith)) (λ e. apart (omega arith))) (at (j * rowWords + 1) (λ e. apart (omega arith)) (λ e. apart (omega arith)))
     go false = refl
 
 -- what the code reads and writes: actor a has the words at 2 (a - 1) and the next
-pub row-words : (words : List ℕ) (a : ℕ) → 1 ≤ a → a ≤ 16 → record { base = getD words ((a - 1) * 2) 0; window = getD words ((a - 1) * 2 + 1) 0 } ≡ rowAt words a
+pub row-words : (words : List ℕ) (a : ℕ) → 1 ≤ a → a ≤ actorMost → record { base = getD words ((a - 1) * rowWords) 0; window = getD words ((a - 1) * rowWords + 1) 0 } ≡ rowAt words a
 row-words words zero h l = absurd (omega arith)
 row-words words (suc i) h l = let p : suc i - 1 ≡ i = omega arith in rw (p, row-in words i)
 
-pub with-words : (words : List ℕ) (a : ℕ) (r : Row) → 1 ≤ a → a ≤ 16 → set (set words ((a - 1) * 2) (r .base)) ((a - 1) * 2 + 1) (r .window) ≡ withRow words a r
+pub with-words : (words : List ℕ) (a : ℕ) (r : Row) → 1 ≤ a → a ≤ actorMost → set (set words ((a - 1) * rowWords) (r .base)) ((a - 1) * rowWords + 1) (r .window) ≡ withRow words a r
 with-words words zero r h l = absurd (omega arith)
 with-words words (suc i) r h l = let p : suc i - 1 ≡ i = omega arith in rw (p, with-in words i r)
 
-pub row-empty : (a : ℕ) → rowAt (replicate 32 0) a ≡ zeroRow
+pub row-empty : (a : ℕ) → rowAt zeroClock a ≡ zeroRow
 unfolding rowAt
 row-empty zero = refl
-row-empty (suc i) = go (ltb i 16)
+row-empty (suc i) = go (ltb i actorMost)
   where
-    at : (k : ℕ) → _≡_ {A = ℕ} (getD (replicate 32 0) k 0) 0
-    at k = on (decLe (suc k) 32)
+    at : (k : ℕ) → _≡_ {A = ℕ} (getD zeroClock k 0) 0
+    at k = on (decLe (suc k) clockWords)
       where
-        on : Dec (suc k ≤ 32) → _≡_ {A = ℕ} (getD (replicate 32 0) k 0) 0
-        on (yes h) = getD-replicate 32 k 0 0 h
-        on (no h) = List·getD-eq-default (replicate 32 0) 0 {n = k} (omega arith)
+        on : Dec (suc k ≤ clockWords) → _≡_ {A = ℕ} (getD zeroClock k 0) 0
+        on (yes h) = getD-replicate clockWords k 0 0 h
+        on (no h) = List·getD-eq-default zeroClock 0 {n = k} (omega arith)
 
-    go : (b : Bool) → cond b (rowIn (replicate 32 0) i) zeroRow ≡ zeroRow
-    go true = row-eq (at (i * 2)) (at (i * 2 + 1))
+    go : (b : Bool) → cond b (rowIn zeroClock i) zeroRow ≡ zeroRow
+    go true = row-eq (at (i * rowWords)) (at (i * rowWords + 1))
     go false = refl
 
 -- clocks with equal rows are equal
-pub rows-eq : (v w : List ℕ) → length v ≡ 32 → length w ≡ 32 → ((a : ℕ) → rowAt v a ≡ rowAt w a) → v ≡ w
+pub rows-eq : (v w : List ℕ) → length v ≡ clockWords → length w ≡ clockWords → ((a : ℕ) → rowAt v a ≡ rowAt w a) → v ≡ w
 rows-eq v w s t same = ext-getD 0 v w (s ∙ sym t) at
   where
     at : (k : ℕ) → k < length v → getD v k 0 ≡ getD w k 0
@@ -164,8 +164,8 @@ rows-eq v w s t same = ext-getD 0 v w (s ∙ sym t) at
         rows = sym (row-in v i (omega arith)) ∙ same (suc i) ∙ row-in w i (omega arith)
 
         go : Dec (k % 2 ≡ 0) → getD v k 0 ≡ getD w k 0
-        go (yes e) = let p : k ≡ i * 2 = omega arith in rw p (ap (λ (r : Row). r .base) rows)
-        go (no e) = let p : k ≡ i * 2 + 1 = omega arith in rw p (ap (λ (r : Row). r .window) rows)
+        go (yes e) = let p : k ≡ i * rowWords = omega arith in rw p (ap (λ (r : Row). r .base) rows)
+        go (no e) = let p : k ≡ i * rowWords + 1 = omega arith in rw p (ap (λ (r : Row). r .window) rows)
 
 -- ---- the zero row
 
@@ -278,7 +278,7 @@ unfolding joinEach
 length-joinEach W words [] = refl
 length-joinEach W words (d ∷ ds) = length-joinEach W (joinDot W words d) ds ∙ length-joinDot W words d
 
-pub row-joined : (W : ℕ) (words : List ℕ) (d : Dot) → length words ≡ 32 → Valid d → rowAt (joinDot W words d) (d .actor .number) ≡ join W (rowAt words (d .actor .number)) (d .counter .number)
+pub row-joined : (W : ℕ) (words : List ℕ) (d : Dot) → length words ≡ clockWords → Valid d → rowAt (joinDot W words d) (d .actor .number) ≡ join W (rowAt words (d .actor .number)) (d .counter .number)
 unfolding joinDot
 row-joined W words d s v = row-same words (d .actor .number) _ s (v .actor-low) (v .actor-high)
 
@@ -287,7 +287,7 @@ unfolding joinDot
 row-kept W words d a f = row-other words (d .actor .number) a _ (λ e. f (sym e))
 
 -- an actor's row after all joins: its counters are joined, in the dots' order
-pub rows-joined : (W : ℕ) (words : List ℕ) (ds : List Dot) (a : ℕ) → length words ≡ 32 → all dotOk ds ≡ true
+pub rows-joined : (W : ℕ) (words : List ℕ) (ds : List Dot) (a : ℕ) → length words ≡ clockWords → all dotOk ds ≡ true
     → rowAt (joinEach W words ds) a ≡ joinCounters W (rowAt words a) (countersOf a ds)
 unfolding joinEach joinCounters countersOf
 rows-joined W words [] a s ok = refl
@@ -305,21 +305,21 @@ rows-joined W words (d ∷ ds) a s ok =
 -- ---- well-formed clocks
 
 pub record Formed (W : ℕ) (words : List ℕ) : Type 0 where
-  pub size : length words ≡ 32
+  pub size : length words ≡ clockWords
   pub rows : (a : ℕ) → WellFormed W (rowAt words a)
 
 pub rows-well : (W : ℕ) (words : List ℕ) → rowsOk W words ≡ true → (a : ℕ) → WellFormed W (rowAt words a)
 unfolding rowsOk
-rows-well W words t a = go (decLe 1 a) (decLe a 16)
+rows-well W words t a = go (decLe 1 a) (decLe a actorMost)
   where
-    go : Dec (1 ≤ a) → Dec (a ≤ 16) → WellFormed W (rowAt words a)
-    go (yes h) (yes l) = formed (allTo-at 16 (λ b. wellFormed W (rowAt words b)) t a h l)
+    go : Dec (1 ≤ a) → Dec (a ≤ actorMost) → WellFormed W (rowAt words a)
+    go (yes h) (yes l) = formed (allTo-at actorMost (λ b. wellFormed W (rowAt words b)) t a h l)
     go (yes h) (no l) = rw (row-none words a (inr (omega arith))) (zero-formed W)
     go (no h) l = rw (row-none words a (inl (omega arith))) (zero-formed W)
 
 pub rows-tested : (W : ℕ) (words : List ℕ) → ((a : ℕ) → WellFormed W (rowAt words a)) → rowsOk W words ≡ true
 unfolding rowsOk
-rows-tested W words f = allTo-all 16 (λ b. wellFormed W (rowAt words b)) (λ a h l. forms (f a))
+rows-tested W words f = allTo-all actorMost (λ b. wellFormed W (rowAt words b)) (λ a h l. forms (f a))
 
 -- ---- dots that can be joined in their order
 
@@ -348,23 +348,23 @@ module _ (W : ℕ) (w : 1 ≤ W) (words : List ℕ) (ds : List Dot) (f : (a : �
 
   pub near-reach : near W words ds ≡ true → (a : ℕ) → allInReach W (rowAt words a) (countersOf a ds) ≡ true
   unfolding near allInReach
-  near-reach n a = go (decLe 1 a) (decLe a 16)
+  near-reach n a = go (decLe 1 a) (decLe a actorMost)
     where
-      none : ((1 ≤ a) × (a ≤ 16) → ⊥) → allInReach W (rowAt words a) (countersOf a ds) ≡ true
+      none : ((1 ≤ a) × (a ≤ actorMost) → ⊥) → allInReach W (rowAt words a) (countersOf a ds) ≡ true
       none h =
           ap (allInReach W (rowAt words a))
           (counters-none a ds (λ d m e. let v = valid d (all-member dotOk ds ok d m) in let l = v .actor-low in let k = v .actor-high in h (omega arith, omega arith)))
 
-      go : Dec (1 ≤ a) → Dec (a ≤ 16) → allInReach W (rowAt words a) (countersOf a ds) ≡ true
-      go (yes h) (yes l) = reach-near a ∙ allTo-at 16 (λ b. not (tooFar W (rowAt words b) (countersOf b ds))) n a h l
+      go : Dec (1 ≤ a) → Dec (a ≤ actorMost) → allInReach W (rowAt words a) (countersOf a ds) ≡ true
+      go (yes h) (yes l) = reach-near a ∙ allTo-at actorMost (λ b. not (tooFar W (rowAt words b) (countersOf b ds))) n a h l
       go (yes h) (no l) = none (λ p. l (p .1))
       go (no h) l = none (λ p. h (p .0))
 
   pub reach-all-near : ((a : ℕ) → allInReach W (rowAt words a) (countersOf a ds) ≡ true) → near W words ds ≡ true
   unfolding near
-  reach-all-near r = allTo-all 16 (λ b. not (tooFar W (rowAt words b) (countersOf b ds))) (λ a h l. sym (reach-near a) ∙ r a)
+  reach-all-near r = allTo-all actorMost (λ b. not (tooFar W (rowAt words b) (countersOf b ds))) (λ a h l. sym (reach-near a) ∙ r a)
 
-  pub ready : length words ≡ 32 → near W words ds ≡ true → Ready W words ds
+  pub ready : length words ≡ clockWords → near W words ds ≡ true → Ready W words ds
   ready s n = record { size = s; rows = rows-tested W words f; ok = ok; reach = near-reach n }
 
 -- ---- the clock's laws
@@ -383,9 +383,9 @@ module _ (W : ℕ) (w : 1 ≤ W) (words : List ℕ) (ds : List Dot) (f : Formed 
   sorted-near : near W words (sort compareDots ds) ≡ true
   unfolding near
   sorted-near =
-      allTo-all 16 (λ a. not (tooFar W (rowAt words a) (countersOf a (sort compareDots ds)))) (λ a h l.
+      allTo-all actorMost (λ a. not (tooFar W (rowAt words a) (countersOf a (sort compareDots ds)))) (λ a h l.
       ap not (far-set W (rowAt words a) (countersOf a (sort compareDots ds)) (countersOf a ds) (f .rows a) (counters-same a (sort compareDots ds) ds from-sorted to-sorted))
-      ∙ allTo-at 16 (λ b. not (tooFar W (rowAt words b) (countersOf b ds))) (holds (near W words ds) (T-both (all dotOk ds) (near W words ds) t .1)) a h l)
+      ∙ allTo-at actorMost (λ b. not (tooFar W (rowAt words b) (countersOf b ds))) (holds (near W words ds) (T-both (all dotOk ds) (near W words ds) t .1)) a h l)
 
   pub sorted-ready : Ready W words (sort compareDots ds)
   sorted-ready =
@@ -417,7 +417,7 @@ pub near-unseen : (W : ℕ) (words : List ℕ) (ds ds′ : List Dot) → rowsOk 
     → near W words ds ≡ near W words ds′
 unfolding near sees known
 near-unseen W words ds ds′ rows to from =
-    allTo-same 16 (λ a. not (tooFar W (rowAt words a) (countersOf a ds))) (λ a. not (tooFar W (rowAt words a) (countersOf a ds′)))
+    allTo-same actorMost (λ a. not (tooFar W (rowAt words a) (countersOf a ds))) (λ a. not (tooFar W (rowAt words a) (countersOf a ds′)))
     (λ a. ap not (far-known W (rowAt words a) (countersOf a ds) (countersOf a ds′) (rows-well W words rows a) (λ e. by a e (seen (rowAt words a) e) refl)))
   where
     by : (a e : ℕ) (b : Bool) → seen (rowAt words a) e ≡ b → (b || member compare e (countersOf a ds)) ≡ (b || member compare e (countersOf a ds′))

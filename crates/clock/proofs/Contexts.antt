@@ -10,12 +10,12 @@ use Rattle.wire.proofs.Parts.{rest-part}
 use Rattle.wire.proofs.Lists.{member-cons, all-member, member-all, insert-member, member-insert, ascending-insert, insertAll-member, member-insertAll, ascending-insertAll, ascending-unique}
 use Rattle.dots.specs.declared.Dot.{Dot}
 use Rattle.dots.specs.Dots.{compareDots, dotOk}
-use Rattle.dots.specs.Wire.{dotsOf, placeOf}
+use Rattle.dots.specs.Wire.{dotsOf, placeOf, dotSize}
 use Rattle.dots.proofs.Orders.{dots}
 use Rattle.dots.proofs.Rules.{ascending-valid, ascending-up, up-ascending}
 use Rattle.contexts.proofs.Places.{insert-around}
 use Rattle.clock.specs.Row.{wellFormed}
-use Rattle.clock.specs.Clock.{joinEach, joinAll, near}
+use Rattle.clock.specs.Clock.{joinEach, joinAll, near, clockWords}
 use Rattle.clock.specs.Reach.{Reach, reachStart, reachEach, Ready, Offer, OfferWith}
 use Rattle.clock.proofs.Rows.{forms}
 use Rattle.clock.proofs.Clocks.{zero-formed, rows-well, ready, near-unseen}
@@ -30,7 +30,7 @@ module _ (W : ℕ) (w : 1 ≤ W) (words : List ℕ) (ds : List Dot) (o : Offer W
   pub offer-near : reachEach W words reachStart ds .ok ≡ near W words ds
   offer-near = reach-is-near W words w ds (o .rows) (ascending-valid ds (o .ascends)) (ascending-up ds (o .ascends))
 
-  pub offer-ready : length words ≡ 32 → near W words ds ≡ true → Ready W words ds
+  pub offer-ready : length words ≡ clockWords → near W words ds ≡ true → Ready W words ds
   offer-ready size n = ready W w words ds (rows-well W words (o .rows)) (ascending-valid ds (o .ascends)) (ascending-up ds (o .ascends)) size n
 
   pub offer-joined : joinEach W words ds ≡ joinAll W words ds
@@ -72,6 +72,6 @@ module _ (W : ℕ) (words context : List ℕ) (d : Dot) (o : OfferWith W words c
   with-joined = ap (joinEach W words) with-sorted
 
   -- as the code cuts the context at the dot's place p
-  pub with-around : (p : ℕ) → p * 9 ≤ length context → p ≡ placeOf d (dotsOf context)
-      → withDot ≡ dotsOf (take (p * 9) context) ++ (d ∷ dotsOf (take (length context - p * 9) (drop (p * 9) context)))
-  with-around p low placed = insert-around d context p low placed (o .new) ∙ ap (λ (s : List ℕ). dotsOf (take (p * 9) context) ++ (d ∷ dotsOf s)) (sym (rest-part context (p * 9)))
+  pub with-around : (p : ℕ) → p * dotSize ≤ length context → p ≡ placeOf d (dotsOf context)
+      → withDot ≡ dotsOf (take (p * dotSize) context) ++ (d ∷ dotsOf (take (length context - p * dotSize) (drop (p * dotSize) context)))
+  with-around p low placed = insert-around d context p low placed (o .new) ∙ ap (λ (s : List ℕ). dotsOf (take (p * dotSize) context) ++ (d ∷ dotsOf s)) (sym (rest-part context (p * dotSize)))

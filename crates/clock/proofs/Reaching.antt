@@ -19,7 +19,7 @@ use Rattle.dots.proofs.Orders.{actors, dots}
 use Rattle.dots.proofs.Rules.{Valid, valid}
 use Rattle.clock.specs.Row.{Row, wellFormed, join, inReach}
 use Rattle.clock.specs.Offered.{allInReach}
-use Rattle.clock.specs.Clock.{rowAt, rowsOk, joinDot, joinEach, countersOf, near}
+use Rattle.clock.specs.Clock.{rowAt, rowsOk, joinDot, joinEach, countersOf, near, clockWords}
 use Rattle.clock.specs.Reach.{Reach, Ready, reachStart, rowFor, reachStep, reachEach}
 use Rattle.clock.proofs.Rows.{WellFormed, forms, join-formed, reached}
 use Rattle.clock.proofs.Clocks.{ok-head, ok-tail, rows-well, rows-tested, counters-own, counters-other, counters-none, row-joined, row-kept, length-joinDot, row-none, near-reach, reach-all-near}
@@ -233,7 +233,7 @@ joinEach-append W words [] ys = refl
 joinEach-append W words (d ∷ xs) ys = joinEach-append W (joinDot W words d) xs ys
 
 -- dots are ready where the first is in reach, and the others are ready after it
-pub ready-cons : (W : ℕ) (words : List ℕ) (d : Dot) (ds : List Dot) → length words ≡ 32 → rowsOk W words ≡ true → dotOk d ≡ true
+pub ready-cons : (W : ℕ) (words : List ℕ) (d : Dot) (ds : List Dot) → length words ≡ clockWords → rowsOk W words ≡ true → dotOk d ≡ true
     → inReach W (rowAt words (d .actor .number)) (d .counter .number) ≡ true → Ready W (joinDot W words d) ds → Ready W words (d ∷ ds)
 unfolding all
 ready-cons W words d ds s rows ok t r = record { size = s; rows = rows; ok = and-eq-true-iff (dotOk d) (all dotOk ds) .1 (ok, r .ok); reach = reach }

@@ -1,7 +1,6 @@
 -- What a call offers to a row: several counters at once. Refusal 10, over any window width W.
 use Prim.Native.Nat.{ℕ, zero, suc, _+_, compare}
 use mathlib.Core.Bool.{Bool, true, _&&_, _||_, cond}
-use mathlib.Core.Option.{Option, none, some}
 use mathlib.Core.List.{List, [], _∷_, _++_}
 use lib.Dec.{ltb}
 use Rattle.wire.specs.Lists.{any, member}
@@ -50,8 +49,3 @@ unfoldable pub allInReach : ℕ → Row → List ℕ → Bool
 unfolding join inReach
 allInReach W r [] = true
 allInReach W r (c ∷ cs) = inReach W r c && allInReach W (join W r c) cs
-
--- counters offered together: the row that sees all of them too, or none where refusal 10 holds
-unfoldable pub offer : ℕ → Row → List ℕ → Option Row
-unfolding tooFar joinAll
-offer W r cs = cond (tooFar W r cs) none (some (joinAll W r cs))

@@ -13,7 +13,7 @@ use Rattle.clock.specs.Code.{rowOf}
 use Rattle.dots.specs.declared.Dot.{Dot}
 use Rattle.wire.specs.Lists.{all, member}
 use Rattle.dots.specs.Dots.{compareDots, dotOk, ascendingDots}
-use Rattle.clock.specs.Clock.{zeroRow, rowAt, rowsOk, countersOf}
+use Rattle.clock.specs.Clock.{zeroRow, rowAt, rowsOk, countersOf, clockWords}
 use Rattle.clock.specs.declared.Reach.{Reach as CodeReach}
 
 -- all dots so far are in reach, and the row of the last one's actor with them
@@ -46,7 +46,7 @@ reachEach W words x (d ∷ ds) = reachEach W words (reachStep W words x d) ds
 
 -- dots that can be joined one by one, in their order
 pub record Ready (W : ℕ) (words : List ℕ) (ds : List Dot) : Type 0 where
-  pub size : length words ≡ 32
+  pub size : length words ≡ clockWords
   pub rows : rowsOk W words ≡ true
   pub ok : all dotOk ds ≡ true
   pub reach : (a : ℕ) → allInReach W (rowAt words a) (countersOf a ds) ≡ true

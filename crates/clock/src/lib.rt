@@ -8,10 +8,26 @@ ghost use Rattle.dots.specs.Dots.{maxCounter};
 ghost use Rattle.dots.specs.Wire.{dotsOf};
 ghost use Rattle.clock.specs.Row.{windowWidth, seen as isSeen, wellFormed, inReach, trailingOnes, settled, join as joined};
 ghost use Rattle.clock.specs.Code.{rowOf};
-ghost use Rattle.clock.specs.Clock.{rowAt, withRow, sees as isSeenBy, rowsOk, clockOk, joinDot, joinEach, joinAll, near};
+ghost use Rattle.clock.specs.Clock.{rowAt, withRow, sees as isSeenBy, rowsOk, clockOk, joinDot, joinEach, joinAll, near, clockWords};
 ghost use Rattle.clock.specs.Reach.{reachOf, reachStart, rowFor, reachStep, reachEach, Ready, Offer, OfferWith};
 
 // ---- one row
+
+// Bits of a window.
+pub const WINDOW_WIDTH: u64 = 64;
+// The same, as the number of its trailing ones is counted.
+const WINDOW_RUN: u32 = WINDOW_WIDTH as u32;
+// Words of a row and of the clock, a row for each actor.
+pub const ROW_WORDS: usize = 2;
+
+pub const CLOCK_WORDS: usize = dots::ACTOR_MOST as usize * ROW_WORDS;
+
+pub type Words = [u64; CLOCK_WORDS];
+
+// The clock: base and window of actor 1, those of actor 2, and so on.
+pub struct Clock {
+    pub words: Words,
+}
 
 // Events 1 to base are seen. Bit i of the window says that event base + 1 + i is seen.
 pub struct Row {
@@ -29,7 +45,7 @@ fn row_sees(row: Row, counter: u64) -> bool
         return 1 <= counter;
     }
     let above = counter - base - 1;
-    if 64 <= above {
+    if WINDOW_WIDTH <= above {
         return false;
     }
     (window >> above) % 2 == 1
@@ -45,7 +61,7 @@ fn row_ok(row: Row) -> bool
         return false;
     }
     let room = u64::MAX - base;
-    if 64 <= room {
+    if WINDOW_WIDTH <= room {
         return true;
     }
     window >> room == 0
@@ -59,7 +75,7 @@ fn row_reaches(row: Row, counter: u64) -> bool
     if counter <= base {
         return 1 <= counter;
     }
-    counter - base <= 64
+    counter - base <= WINDOW_WIDTH
 }
 
 // Moves the base up by the run of low ones. A run of 64 leaves no bit, and is no shift.
@@ -68,14 +84,14 @@ fn settle(base: u64, window: u64) -> Row
     ensures { λ r. ⌜ rowOf r ≡ settled windowWidth (record { base = base; window = window }) ⌝ }
 {
     let run = u64::trailing_zeros(!window);
-    if run < 64 {
+    if run < WINDOW_RUN {
         return Row {
             base: base + run as u64,
             window: window >> run,
         };
     }
     Row {
-        base: base + 64,
+        base: base + WINDOW_WIDTH,
         window: 0,
     }
 }
@@ -104,17 +120,17 @@ pub struct Reach {
 }
 
 // The row of an actor; of no actor it is zero.
-pub fn row_of(words: &[u64; 32], actor: dots::Actor) -> Row
+pub fn row_of(words: &Words, actor: dots::Actor) -> Row
     ensures { λ r. ⌜ rowOf r ≡ rowAt (now (words .entry)) (actor .number) ⌝ }
 {
     let a = actor.number;
     if a < 1 {
         return Row { base: 0, window: 0 };
     }
-    if 16 < a {
+    if dots::ACTOR_MOST < a {
         return Row { base: 0, window: 0 };
     }
-    let first = (a - 1) as usize * 2;
+    let first = (a - 1) as usize * ROW_WORDS;
     Row {
         base: words[first],
         window: words[first + 1],
@@ -122,35 +138,35 @@ pub fn row_of(words: &[u64; 32], actor: dots::Actor) -> Row
 }
 
 // Puts the row of an actor in its place.
-fn set_row(words: &mut [u64; 32], actor: dots::Actor, row: Row)
+fn set_row(words: &mut Words, actor: dots::Actor, row: Row)
     ensures { λ _. ⌜ now (words .exit) ≡ withRow (now (words .entry)) (actor .number) (rowOf row) ⌝ }
 {
     let a = actor.number;
     if a < 1 {
         return;
     }
-    if 16 < a {
+    if dots::ACTOR_MOST < a {
         return;
     }
-    let at = (a - 1) as usize * 2;
+    let at = (a - 1) as usize * ROW_WORDS;
     words[at] = row.base;
     words[at + 1] = row.window;
 }
 
 // Whether the clock sees a dot.
-pub fn sees(words: &[u64; 32], dot: dots::Dot) -> bool
+pub fn sees(words: &Words, dot: dots::Dot) -> bool
     ensures { λ r. ⌜ r ≡ isSeenBy (now (words .entry)) dot ⌝ }
 {
     row_sees(row_of(words, dot.actor), dot.counter.number)
 }
 
 // Whether every row keeps its rules.
-fn rows_ok(words: &[u64; 32]) -> bool
+fn rows_ok(words: &Words) -> bool
     ensures { λ r. ⌜ r ≡ rowsOk windowWidth (now (words .entry)) ⌝ }
 {
     let mut ok = true;
     let mut a: u8 = 0;
-    while a < 16 {
+    while a < dots::ACTOR_MOST {
         a = a + 1;
         let row = row_of(words, dots::Actor { number: a });
         ok = ok & row_ok(row);
@@ -159,7 +175,7 @@ fn rows_ok(words: &[u64; 32]) -> bool
 }
 
 // Whether the clock of a controller keeps its rules: the own window is 0.
-pub fn clock_ok(own: dots::Actor, words: &[u64; 32]) -> bool
+pub fn clock_ok(own: dots::Actor, words: &Words) -> bool
     ensures { λ r. ⌜ r ≡ clockOk windowWidth (own .number) (now (words .entry)) ⌝ }
 {
     let rows = rows_ok(words);
@@ -168,7 +184,7 @@ pub fn clock_ok(own: dots::Actor, words: &[u64; 32]) -> bool
 }
 
 // The clock that also sees the dot.
-fn join_dot(words: &mut [u64; 32], dot: dots::Dot)
+fn join_dot(words: &mut Words, dot: dots::Dot)
     requires { ⌜ (wellFormed windowWidth (rowAt (now words) (dot .actor .number)) ≡ true) × (inReach windowWidth (rowAt (now words) (dot .actor .number)) (dot .counter .number) ≡ true) ⌝ }
     ensures { λ _. ⌜ now (words .exit) ≡ joinDot windowWidth (now (words .entry)) dot ⌝ }
 {
@@ -177,7 +193,7 @@ fn join_dot(words: &mut [u64; 32], dot: dots::Dot)
 }
 
 // The row for the next dot of an actor.
-fn row_for(words: &[u64; 32], x: Reach, actor: dots::Actor) -> Row
+fn row_for(words: &Words, x: Reach, actor: dots::Actor) -> Row
     ensures { λ r. ⌜ rowOf r ≡ rowFor (now (words .entry)) (reachOf x) (actor .number) ⌝ }
 {
     if x.actor.number == actor.number {
@@ -187,7 +203,7 @@ fn row_for(words: &[u64; 32], x: Reach, actor: dots::Actor) -> Row
 }
 
 // Whether one dot more is in reach.
-fn reach_step(words: &[u64; 32], x: Reach, dot: dots::Dot) -> Reach
+fn reach_step(words: &Words, x: Reach, dot: dots::Dot) -> Reach
     requires { ⌜ (rowsOk windowWidth (now words) ≡ true) × (wellFormed windowWidth (rowOf (x .row)) ≡ true) ⌝ }
     ensures { λ r. ⌜ (reachOf r ≡ reachStep windowWidth (now (words .entry)) (reachOf x) dot) × (wellFormed windowWidth (rowOf (r .row)) ≡ true) ⌝ }
 {
@@ -210,15 +226,15 @@ fn reach_step(words: &[u64; 32], x: Reach, dot: dots::Dot) -> Reach
 }
 
 // Whether all dots of the bytes are in reach, one after the other.
-fn reach_dots(words: &[u64; 32], from: Reach, offered: &[u8]) -> Reach
+fn reach_dots(words: &Words, from: Reach, offered: &[u8]) -> Reach
     requires { ⌜ (rowsOk windowWidth (now words) ≡ true) × (wellFormed windowWidth (rowOf (from .row)) ≡ true) ⌝ }
     ensures { λ r. ⌜ (reachOf r ≡ reachEach windowWidth (now (words .entry)) (reachOf from) (dotsOf (now (offered .entry)))) × (wellFormed windowWidth (rowOf (r .row)) ≡ true) ⌝ }
 {
     let mut x = from;
-    let n = offered.len() / 9;
+    let n = offered.len() / dots::DOT_SIZE;
     let mut i: usize = 0;
     while i < n {
-        let dot = dots::dot_at(offered, i * 9);
+        let dot = dots::dot_at(offered, i * dots::DOT_SIZE);
         x = reach_step(words, x, dot);
         i = i + 1;
     }
@@ -237,14 +253,14 @@ fn reach_start() -> Reach
 }
 
 // Joins all dots of the bytes, one after the other.
-fn join_dots(words: &mut [u64; 32], offered: &[u8])
+fn join_dots(words: &mut Words, offered: &[u8])
     requires { ⌜ Ready windowWidth (now words) (dotsOf (now offered)) ⌝ }
     ensures { λ _. ⌜ now (words .exit) ≡ joinEach windowWidth (now (words .entry)) (dotsOf (now (offered .entry))) ⌝ }
 {
-    let n = offered.len() / 9;
+    let n = offered.len() / dots::DOT_SIZE;
     let mut i: usize = 0;
     while i < n {
-        let dot = dots::dot_at(offered, i * 9);
+        let dot = dots::dot_at(offered, i * dots::DOT_SIZE);
         join_dot(words, dot);
         i = i + 1;
     }
@@ -253,7 +269,7 @@ fn join_dots(words: &mut [u64; 32], offered: &[u8])
 // ---- a context offered to the clock, without or with one more dot
 
 // Whether refusal 10 does not hold for a context. The clock is only read.
-pub fn near_context(words: &[u64; 32], context: &[u8]) -> bool
+pub fn near_context(words: &Words, context: &[u8]) -> bool
     requires { ⌜ Offer windowWidth (now words) (dotsOf (now context)) ⌝ }
     ensures { λ r. ⌜ r ≡ near windowWidth (now (words .entry)) (dotsOf (now (context .entry))) ⌝ }
 {
@@ -262,7 +278,7 @@ pub fn near_context(words: &[u64; 32], context: &[u8]) -> bool
 }
 
 // The same for dots before one, the one, and dots after it.
-fn near_around(words: &[u64; 32], before: &[u8], dot: dots::Dot, after: &[u8]) -> bool
+fn near_around(words: &Words, before: &[u8], dot: dots::Dot, after: &[u8]) -> bool
     requires { ⌜ Offer windowWidth (now words) (dotsOf (now before) ++ (dot ∷ dotsOf (now after))) ⌝ }
     ensures { λ r. ⌜ r ≡ near windowWidth (now (words .entry)) (dotsOf (now (before .entry)) ++ (dot ∷ dotsOf (now (after .entry)))) ⌝ }
 {
@@ -273,24 +289,24 @@ fn near_around(words: &[u64; 32], before: &[u8], dot: dots::Dot, after: &[u8]) -
 }
 
 // Whether refusal 10 does not hold for a context and one more dot.
-pub fn near_with_dot(words: &[u64; 32], context: &[u8], dot: dots::Dot) -> bool
+pub fn near_with_dot(words: &Words, context: &[u8], dot: dots::Dot) -> bool
     requires { ⌜ OfferWith windowWidth (now words) (now context) dot ⌝ }
     ensures { λ r. ⌜ r ≡ near windowWidth (now (words .entry)) (dot ∷ dotsOf (now (context .entry))) ⌝ }
 {
-    let at = contexts::place_of(context, dot) * 9;
+    let at = contexts::place_of(context, dot) * dots::DOT_SIZE;
     near_around(words, &context[..at], dot, &context[at..])
 }
 
 // Joins a context where refusal 10 does not hold.
-pub fn join_context(words: &mut [u64; 32], context: &[u8])
-    requires { ⌜ (length (now words) ≡ 32) × Offer windowWidth (now words) (dotsOf (now context)) × (near windowWidth (now words) (dotsOf (now context)) ≡ true) ⌝ }
+pub fn join_context(words: &mut Words, context: &[u8])
+    requires { ⌜ (length (now words) ≡ clockWords) × Offer windowWidth (now words) (dotsOf (now context)) × (near windowWidth (now words) (dotsOf (now context)) ≡ true) ⌝ }
     ensures { λ _. ⌜ now (words .exit) ≡ joinAll windowWidth (now (words .entry)) (dotsOf (now (context .entry))) ⌝ }
 {
     join_dots(words, context);
 }
 
 // Joins dots before one, the one, and dots after it.
-fn join_around(words: &mut [u64; 32], before: &[u8], dot: dots::Dot, after: &[u8])
+fn join_around(words: &mut Words, before: &[u8], dot: dots::Dot, after: &[u8])
     requires { ⌜ Ready windowWidth (now words) (dotsOf (now before) ++ (dot ∷ dotsOf (now after))) ⌝ }
     ensures { λ _. ⌜ now (words .exit) ≡ joinEach windowWidth (now (words .entry)) (dotsOf (now (before .entry)) ++ (dot ∷ dotsOf (now (after .entry)))) ⌝ }
 {
@@ -300,10 +316,10 @@ fn join_around(words: &mut [u64; 32], before: &[u8], dot: dots::Dot, after: &[u8
 }
 
 // Joins a context and one more dot, in ascending order.
-pub fn join_with_dot(words: &mut [u64; 32], context: &[u8], dot: dots::Dot)
-    requires { ⌜ (length (now words) ≡ 32) × OfferWith windowWidth (now words) (now context) dot × (near windowWidth (now words) (dot ∷ dotsOf (now context)) ≡ true) ⌝ }
+pub fn join_with_dot(words: &mut Words, context: &[u8], dot: dots::Dot)
+    requires { ⌜ (length (now words) ≡ clockWords) × OfferWith windowWidth (now words) (now context) dot × (near windowWidth (now words) (dot ∷ dotsOf (now context)) ≡ true) ⌝ }
     ensures { λ _. ⌜ now (words .exit) ≡ joinAll windowWidth (now (words .entry)) (dot ∷ dotsOf (now (context .entry))) ⌝ }
 {
-    let at = contexts::place_of(context, dot) * 9;
+    let at = contexts::place_of(context, dot) * dots::DOT_SIZE;
     join_around(words, &context[..at], dot, &context[at..]);
 }

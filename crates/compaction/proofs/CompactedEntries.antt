@@ -4,16 +4,14 @@ use mathlib.Core.Bool.{Bool, true, false, not}
 use mathlib.Core.List.{List, [], _∷_, map}
 use Prim.Native.Nat.{ℕ, _*_}
 use lib.ListN.{length, take}
-use Rattle.wire.specs.Lists.{consIf, member, keep, all, Ascending}
+use Rattle.wire.specs.Lists.{consIf, member, keep, all}
 use Rattle.wire.specs.Bytes.{Bytes}
 use Rattle.wire.proofs.Tests.{both-left, both-right}
-use Rattle.wire.proofs.Lists.{ascending-keep}
 use Rattle.dots.specs.declared.Dot.{Dot}
 use Rattle.dots.specs.Names.{Name}
 use Rattle.dots.specs.Dots.{compareDots}
-use Rattle.dots.specs.Wire.{dotsBytes, dotsOf}
-use Rattle.dots.specs.Entries.{Entry, entryDot, compareEntries}
-use Rattle.dots.proofs.Orders.{entries}
+use Rattle.dots.specs.Wire.{dotsBytes, dotsOf, dotSize}
+use Rattle.dots.specs.Entries.{Entry, entryDot}
 use Rattle.keys.specs.Entry.{entryOk, entryKey}
 use Rattle.store.specs.Cut.{endToEnd, storeBytes, keysOf, keyDot}
 use Rattle.compaction.specs.Compaction.{keptKeys, droppedDots, without, inPlaceOf, Compacts}
@@ -49,16 +47,9 @@ module _ (dead : Dot → Bool) (name : Name) (es : List Entry) (ok : all entryOk
       ap (map keyDot) (keep-map (entryKey name) (λ k. dead (keyDot k)) dropped entryOk (λ e h. ap dead (dot-said name e h)) es ok)
       ∙ dots-said name (keep dropped es) (all-keep dropped entryOk es ok)
 
--- the entries kept keep their rules and ascend
-pub kept-ok : (p : Entry → Bool) (es : List Entry) → all entryOk es ≡ true → all entryOk (keep p es) ≡ true
-kept-ok p es ok = all-keep p entryOk es ok
-
-pub kept-ascend : (p : Entry → Bool) (es : List Entry) → Ascending compareEntries es → Ascending compareEntries (keep p es)
-kept-ascend p es up = ascending-keep compareEntries entries p es up
-
 -- the dots of a tombstone
 abbrev pub firstDots : ℕ → Bytes → List Dot
-firstDots count tombstone = dotsOf (take (count * 9) tombstone)
+firstDots count tombstone = dotsOf (take (count * dotSize) tombstone)
 
 -- what compacting leaves of a store with the keys of entries
 module _ (name : Name) (used count : ℕ) (store tombstone store′ tombstone′ : Bytes) (r : Compacted) (c : Compacts (length name) used count store tombstone store′ tombstone′ r)
@@ -77,8 +68,8 @@ module _ (name : Name) (used count : ℕ) (store tombstone store′ tombstone′
   pub used-left : r .used ≡ length (storeBytes name (liveEntries (firstDots count tombstone) es))
   used-left = c .used-left ∙ ap length bytes-are
 
-  pub tombstone-left : tombstone′ ≡ inPlaceOf (dotsBytes (without (map entryDot (keep (λ (e : Entry). member compareDots (e .dot) (firstDots count tombstone)) es)) (firstDots count tombstone))) (count * 9) tombstone
-  tombstone-left = c .dots-left ∙ ap (λ (x : List Dot). inPlaceOf (dotsBytes x) (count * 9) tombstone) dots-are
+  pub tombstone-left : tombstone′ ≡ inPlaceOf (dotsBytes (without (map entryDot (keep (λ (e : Entry). member compareDots (e .dot) (firstDots count tombstone)) es)) (firstDots count tombstone))) (count * dotSize) tombstone
+  tombstone-left = c .dots-left ∙ ap (λ (x : List Dot). inPlaceOf (dotsBytes x) (count * dotSize) tombstone) dots-are
 
   pub count-left : r .count ≡ length (without (map entryDot (keep (λ (e : Entry). member compareDots (e .dot) (firstDots count tombstone)) es)) (firstDots count tombstone))
   count-left = c .count-left ∙ ap length dots-are

@@ -15,8 +15,8 @@ use Rattle.dots.specs.Names.{labelMost}
 use Rattle.wire.proofs.Tests.{both, both-right}
 use Rattle.wire.proofs.Parts.{size-part}
 use Rattle.dots.specs.declared.Dot.{Dot}
-use Rattle.dots.specs.Dots.{compareDots}
-use Rattle.dots.specs.Wire.{dotsBytes, dotsAt, dotsOf}
+use Rattle.dots.specs.Dots.{compareDots, tombstoneMost}
+use Rattle.dots.specs.Wire.{dotsBytes, dotsAt, dotsOf, dotSize, tombstoneSize}
 use Rattle.store.specs.Cut.{endToEnd, keyLength, keysAfter, keysOf, keyDot}
 use Rattle.store.specs.Valid.{keysFit}
 use Rattle.compaction.specs.Compaction.{keptKeys, droppedDots, without, inPlaceOf, Compacts}
@@ -25,6 +25,7 @@ use Rattle.store.proofs.Cut.{endToEnd-keysOf}
 use Rattle.store.proofs.Walk.{end-within, walk-falls, key-size, first-key}
 use Rattle.compaction.proofs.Marks.{keep-whole, without-append, without-none, unmarked-all}
 use Rattle.compaction.proofs.Pieces.{front-cleared, in-place-front}
+use Rattle.keys.specs.Key.{labelKeyFixed, suffixSize}
 
 module _ (dead : Dot → Bool) where
   -- ---- one key
@@ -121,16 +122,16 @@ module _ (dead : Dot → Bool) where
     unfolding key
     found = rw (size-part, w .rest)
 
-    key-fits : (between (n + 16) (n + 15 + labelMost) (length key) && keysFit n (drop (from + len) s₀)) ≡ true
+    key-fits : (between (n + (labelKeyFixed + 1)) (n + labelKeyFixed + labelMost) (length key) && keysFit n (drop (from + len) s₀)) ≡ true
     unfolding keysFit all
     key-fits = rw cut at (w .fit)
 
-    pub key-room : from + 10 ≤ from + len
+    pub key-room : from + (suffixSize - 1) ≤ from + len
     unfolding key
     key-room =
         let fits = key-fits in
-        let low : leb (n + 16) (length (take len (drop from s₀))) ≡ true = search both in
-        omega (arith, leb-true (n + 16) (length (take len (drop from s₀))) low, key-size n s₀ from len more₀ read₀)
+        let low : leb (n + (labelKeyFixed + 1)) (length (take len (drop from s₀))) ≡ true = search both in
+        omega (arith, leb-true (n + (labelKeyFixed + 1)) (length (take len (drop from s₀))) low, key-size n s₀ from len more₀ read₀)
 
     pub walk-turned : (s′ marks′ : Bytes) (to′ : ℕ) → DropsKey dead ds from (from + len) to to′ s s′ marks marks′ → length s′ ≡ length s → Walked ds n s₀ s′ marks₀ marks′ (from + len) to′
     walk-turned s′ marks′ to′ k same = record {
@@ -140,7 +141,7 @@ module _ (dead : Dot → Bool) where
       kept = w .kept ∙ rw (cut, kept-cons, k .front, found, append-assoc);
       dots-left = w .dots-left ∙ rw cut (dropped-first key (keysOf n (drop (from + len) s₀)) (unmarked marks ds))
           ∙ ap (without (droppedDots dead (keysOf n (drop (from + len) s₀)))) (sym (rw found at (k .dots-left)));
-      fit = both-right (between (n + 16) (n + 15 + labelMost) (length key)) (keysFit n (drop (from + len) s₀)) key-fits;
+      fit = both-right (between (n + (labelKeyFixed + 1)) (n + labelKeyFixed + labelMost) (length key)) (keysFit n (drop (from + len) s₀)) key-fits;
       size = same ∙ w .size;
       marks-size = k .size ∙ w .marks-size;
     }
@@ -167,19 +168,19 @@ module _ (dead : Dot → Bool) where
 
 -- ---- keys and tombstone
 
-pub compacted : (n used count : ℕ) (store tombstone keys′ dots′ marks : Bytes) (r q : ℕ) → used ≤ length store → count ≤ 128 → length tombstone ≡ 1152
-    → DropsKeys (λ d. member compareDots d (dotsOf (take (count * 9) tombstone))) (dotsOf (take (count * 9) tombstone)) n r (take used store) keys′ (replicate 128 0) marks
-    → q ≡ length (unmarked marks (dotsOf (take (count * 9) tombstone)))
-    → dots′ ≡ inPlaceOf (dotsBytes (unmarked marks (dotsOf (take (count * 9) tombstone)))) (length (take (count * 9) tombstone)) (take (count * 9) tombstone)
-    → Compacts n used count store tombstone (keys′ ++ drop used store) (dots′ ++ drop (count * 9) tombstone) (record { used = r; count = q })
+pub compacted : (n used count : ℕ) (store tombstone keys′ dots′ marks : Bytes) (r q : ℕ) → used ≤ length store → count ≤ tombstoneMost → length tombstone ≡ tombstoneSize
+    → DropsKeys (λ d. member compareDots d (dotsOf (take (count * dotSize) tombstone))) (dotsOf (take (count * dotSize) tombstone)) n r (take used store) keys′ (replicate tombstoneMost 0) marks
+    → q ≡ length (unmarked marks (dotsOf (take (count * dotSize) tombstone)))
+    → dots′ ≡ inPlaceOf (dotsBytes (unmarked marks (dotsOf (take (count * dotSize) tombstone)))) (length (take (count * dotSize) tombstone)) (take (count * dotSize) tombstone)
+    → Compacts n used count store tombstone (keys′ ++ drop used store) (dots′ ++ drop (count * dotSize) tombstone) (record { used = r; count = q })
 compacted n used count store tombstone keys′ dots′ marks r q fits few size k counted moved =
-    let ds : List Dot = dotsOf (take (count * 9) tombstone) in
+    let ds : List Dot = dotsOf (take (count * dotSize) tombstone) in
     let gone : List Dot = droppedDots (λ d. member compareDots d ds) (keysOf n (take used store)) in
-    let left : unmarked marks ds ≡ without gone ds = k .dots-left ∙ ap (without gone) (unmarked-all 128 ds) in
+    let left : unmarked marks ds ≡ without gone ds = k .dots-left ∙ ap (without gone) (unmarked-all tombstoneMost ds) in
     record {
       keys-left = rw (k .keys-left) (in-place-front (endToEnd (keptKeys (λ d. member compareDots d ds) (keysOf n (take used store)))) store used fits);
       used-left = k .used-left;
-      dots-left = rw (moved, left) (in-place-front (dotsBytes (without gone ds)) tombstone (count * 9) (omega arith));
+      dots-left = rw (moved, left) (in-place-front (dotsBytes (without gone ds)) tombstone (count * dotSize) (omega arith));
       count-left = counted ∙ ap length left;
     }
 

@@ -13,18 +13,19 @@ use Rattle.wire.specs.Lists.{consIf}
 use Rattle.wire.specs.Bytes.{Bytes}
 use Rattle.wire.proofs.Parts.{drop-step, size-part}
 use Rattle.dots.specs.declared.Dot.{Dot}
-use Rattle.dots.specs.Wire.{dotBytes, dotsBytes, dotAt, dotsOf}
+use Rattle.dots.specs.Wire.{dotBytes, dotsBytes, dotAt, dotsOf, dotSize, tombstoneSize}
 use Rattle.dots.proofs.Loops.{left, dots-start, dots-next, dots-none}
 use Rattle.dots.proofs.RoundTrip.{length-dot, length-dots, dot-back}
 use Rattle.compaction.specs.Compaction.{inPlaceOf}
 use Rattle.compaction.specs.Marks.{unmarked, KeepsPiece}
 use Rattle.compaction.proofs.Pieces.{front-cleared}
+use Rattle.dots.specs.Dots.{tombstoneMost}
 
 -- what stands before `to` are the unmarked of the first i dots, and from dot i on nothing has moved
 pub record Gathered (marks s₀ s : Bytes) (i to : ℕ) : Type 0 where
-  pub behind : to ≤ i * 9
-  pub within : i ≤ length s₀ / 9
-  pub rest : drop (i * 9) s ≡ drop (i * 9) s₀
+  pub behind : to ≤ i * dotSize
+  pub within : i ≤ length s₀ / dotSize
+  pub rest : drop (i * dotSize) s ≡ drop (i * dotSize) s₀
   pub kept : dotsBytes (unmarked marks (dotsOf s₀)) ≡ take to s ++ dotsBytes (unmarked (drop i marks) (left s₀ i))
   pub size : length s ≡ length s₀
 
@@ -36,29 +37,29 @@ unfolding dotsBytes
 dots-if true d ds = refl
 dots-if false d ds = refl
 
-module _ (marks s₀ s : Bytes) (i to : ℕ) (w : Gathered marks s₀ s i to) (more : i < length s₀ / 9) where
-  pub dot-within : i * 9 + 9 ≤ length s
+module _ (marks s₀ s : Bytes) (i to : ℕ) (w : Gathered marks s₀ s i to) (more : i < length s₀ / dotSize) where
+  pub dot-within : i * dotSize + dotSize ≤ length s
   dot-within = omega (arith, w .size)
 
   -- the bytes of dot i
-  here : ((j : ℕ) → Fits w8 (getD s₀ j 0)) → take (i * 9 + 9 - i * 9) (drop (i * 9) s) ≡ dotBytes (dotAt s₀ (i * 9))
+  here : ((j : ℕ) → Fits w8 (getD s₀ j 0)) → take (i * dotSize + dotSize - i * dotSize) (drop (i * dotSize) s) ≡ dotBytes (dotAt s₀ (i * dotSize))
   here small =
-      let bytes = dot-back s₀ (λ j. small j .fits) (i * 9) (omega arith) in
-      size-part s (i * 9) 9 ∙ ap (take 9) (w .rest ∙ sym bytes) ∙ take-at (dotBytes (dotAt s₀ (i * 9))) (drop (i * 9 + 9) s₀) 9 (length-dot (dotAt s₀ (i * 9)))
+      let bytes = dot-back s₀ (λ j. small j .fits) (i * dotSize) (omega arith) in
+      size-part s (i * dotSize) dotSize ∙ ap (take dotSize) (w .rest ∙ sym bytes) ∙ take-at (dotBytes (dotAt s₀ (i * dotSize))) (drop (i * dotSize + dotSize) s₀) dotSize (length-dot (dotAt s₀ (i * dotSize)))
 
-  pub gather-turned : length s₀ ≤ 1152 → length marks ≡ 128 → ((j : ℕ) → Fits w8 (getD s₀ j 0)) → (s′ : Bytes) (to′ : ℕ) → KeepsPiece (eqb (getD marks i 0) 0) (i * 9) (i * 9 + 9) to to′ s s′ → length s′ ≡ length s → Gathered marks s₀ s′ (i + 1) to′
+  pub gather-turned : length s₀ ≤ tombstoneSize → length marks ≡ tombstoneMost → ((j : ℕ) → Fits w8 (getD s₀ j 0)) → (s′ : Bytes) (to′ : ℕ) → KeepsPiece (eqb (getD marks i 0) 0) (i * dotSize) (i * dotSize + dotSize) to to′ s s′ → length s′ ≡ length s → Gathered marks s₀ s′ (i + 1) to′
   unfolding unmarked
   gather-turned few marked small s′ to′ k same =
-      let next : i * 9 + 9 ≡ (i + 1) * 9 = omega arith in
+      let next : i * dotSize + dotSize ≡ (i + 1) * dotSize = omega arith in
       record {
         behind = omega (arith, k .within);
         within = omega arith;
-        rest = rw next at (k .rest ∙ sym (drop-drop 9 (i * 9) s) ∙ ap (drop 9) (w .rest) ∙ drop-drop 9 (i * 9) s₀);
+        rest = rw next at (k .rest ∙ sym (drop-drop dotSize (i * dotSize) s) ∙ ap (drop dotSize) (w .rest) ∙ drop-drop dotSize (i * dotSize) s₀);
         kept = w .kept ∙ rw (drop-step marks i (omega arith), dots-next s₀ i more, dots-if, k .front, here small, append-assoc);
         size = same ∙ w .size;
       }
 
-module _ (marks s₀ s : Bytes) (i to : ℕ) (w : Gathered marks s₀ s i to) (end : length s₀ / 9 ≤ i) where
+module _ (marks s₀ s : Bytes) (i to : ℕ) (w : Gathered marks s₀ s i to) (end : length s₀ / dotSize ≤ i) where
   gathered : dotsBytes (unmarked marks (dotsOf s₀)) ≡ take to s
   unfolding unmarked dotsBytes
   gathered = w .kept ∙ rw (dots-none s₀ i end, append-nil)
@@ -66,7 +67,7 @@ module _ (marks s₀ s : Bytes) (i to : ℕ) (w : Gathered marks s₀ s i to) (e
   to-within : to ≤ length s
   to-within = omega (arith, w .behind, w .within, w .size)
 
-  pub gather-count : to / 9 ≡ length (unmarked marks (dotsOf s₀))
+  pub gather-count : to / dotSize ≡ length (unmarked marks (dotsOf s₀))
   gather-count = omega (arith, length-dots (unmarked marks (dotsOf s₀)), ap length gathered, length-take-le to s to-within)
 
   pub gather-ended : (part : Bytes) → part ≡ replicate (length (take (length s - to) (drop to s))) 0

@@ -11,12 +11,12 @@ use lib.ListN.{length, set, replicate, drop-of-length-le, length-set}
 use borrow.Author.Tests.{not-true, not-false}
 use Rattle.wire.specs.Lists.{_∈_, consIf, keep, all, isLt, member, Less, Ascending}
 use Rattle.wire.proofs.Tests.{untrue, pass, fail, both-left, both-right}
-use Rattle.wire.proofs.Lists.{irreflexive, tie-is, member-sound, ascending-keep}
+use Rattle.wire.proofs.Lists.{irreflexive, tie-is, member-sound}
 use Rattle.dots.specs.declared.Dot.{Dot}
-use Rattle.dots.specs.Dots.{compareDots, dotOk, ascendingDots}
-use Rattle.dots.specs.Wire.{dotsOf, placeOf}
+use Rattle.dots.specs.Dots.{compareDots, ascendingDots, tombstoneMost}
+use Rattle.dots.specs.Wire.{dotsOf, placeOf, tombstoneSize}
 use Rattle.dots.proofs.Orders.{dots}
-use Rattle.dots.proofs.Rules.{ascending-up, ascending-valid, up-ascending}
+use Rattle.dots.proofs.Rules.{ascending-up}
 use Rattle.dots.proofs.Loops.{length-dotsOf}
 use Rattle.contexts.proofs.Search.{isFirst, member-placed}
 use Rattle.compaction.specs.Compaction.{without}
@@ -83,11 +83,6 @@ pub without-none : (xs : List Dot) → without [] xs ≡ xs
 unfolding member
 without-none xs = keep-whole (λ x. not (member compareDots x [])) xs (λ x m. refl)
 
-pub without-ascends : (gone ds : List Dot) → ascendingDots ds ≡ true → ascendingDots (without gone ds) ≡ true
-without-ascends gone ds up =
-    let test : Dot → Bool = λ d. not (member compareDots d gone) in
-    up-ascending (keep test ds) (all-keep test dotOk ds (ascending-valid ds up)) (ascending-keep compareDots dots test ds (ascending-up ds up))
-
 -- ---- marks
 
 pub unmarked-all : (k : ℕ) (ds : List Dot) → unmarked (replicate k 0) ds ≡ ds
@@ -149,7 +144,7 @@ mark-one d (x ∷ xs) (m ∷ marks) up t fits = step (compareDots d x) refl t (�
     step Ordering·eq e s below = let q : d ≡ x = dots .tie d x e in rw (ap (λ (z : Dot). compareDots z d) (sym q) ∙ dots .self d) (same q (eqb m 0))
     step Ordering·gt e s below = rw (dots .turn d x e, below s) (before (dots .turn d x e) (eqb m 0))
 
-module _ (bytes marks : List ℕ) (dot : Dot) (up : ascendingDots (dotsOf bytes) ≡ true) (few : length bytes ≤ 1152) (size : length marks ≡ 128) (held : Bool) (is : held ≡ member compareDots dot (dotsOf bytes)) where
+module _ (bytes marks : List ℕ) (dot : Dot) (up : ascendingDots (dotsOf bytes) ≡ true) (few : length bytes ≤ tombstoneSize) (size : length marks ≡ tombstoneMost) (held : Bool) (is : held ≡ member compareDots dot (dotsOf bytes)) where
   pub unheld : not held ≡ true → MarksDot dot (dotsOf bytes) false marks marks
   unheld h = record { found = sym (not-true held h) ∙ is; dots-left = sym (without-none (unmarked marks (dotsOf bytes))); size = refl }
 
@@ -157,7 +152,7 @@ module _ (bytes marks : List ℕ) (dot : Dot) (up : ascendingDots (dotsOf bytes)
     there : member compareDots dot (dotsOf bytes) ≡ true
     there = sym is ∙ not-false held h
 
-    pub mark-place : at < 128
+    pub mark-place : at < tombstoneMost
     mark-place = elim (decLt at (length (dotsOf bytes))) [
       | yes l ↦ omega (arith, length-dotsOf bytes)
       | no l ↦

@@ -9,7 +9,7 @@ use Rattle.wire.specs.Lists.{keep, member}
 use Rattle.wire.specs.Bytes.{Bytes}
 use Rattle.dots.specs.declared.Dot.{Dot}
 use Rattle.dots.specs.Dots.{compareDots}
-use Rattle.dots.specs.Wire.{dotsBytes, dotsOf}
+use Rattle.dots.specs.Wire.{dotsBytes, dotsOf, dotSize}
 use Rattle.compaction.specs.declared.Compacted.{Compacted}
 use Rattle.store.specs.Cut.{endToEnd, keysOf, keyDot}
 
@@ -30,8 +30,8 @@ inPlaceOf bytes used s = bytes ++ (replicate (used - length bytes) 0 ++ drop use
 
 -- what compacting leaves of a store with `used` bytes and of a tombstone with `count` dots
 pub record Compacts (n used count : ℕ) (store tombstone store′ tombstone′ : Bytes) (r : Compacted) : Type 0 where
-  pub keys-left : store′ ≡ inPlaceOf (endToEnd (keptKeys (λ d. member compareDots d (dotsOf (take (count * 9) tombstone))) (keysOf n (take used store)))) used store
-  pub used-left : r .used ≡ length (endToEnd (keptKeys (λ d. member compareDots d (dotsOf (take (count * 9) tombstone))) (keysOf n (take used store))))
+  pub keys-left : store′ ≡ inPlaceOf (endToEnd (keptKeys (λ d. member compareDots d (dotsOf (take (count * dotSize) tombstone))) (keysOf n (take used store)))) used store
+  pub used-left : r .used ≡ length (endToEnd (keptKeys (λ d. member compareDots d (dotsOf (take (count * dotSize) tombstone))) (keysOf n (take used store))))
   pub dots-left : tombstone′
-      ≡ inPlaceOf (dotsBytes (without (droppedDots (λ d. member compareDots d (dotsOf (take (count * 9) tombstone))) (keysOf n (take used store))) (dotsOf (take (count * 9) tombstone)))) (count * 9) tombstone
-  pub count-left : r .count ≡ length (without (droppedDots (λ d. member compareDots d (dotsOf (take (count * 9) tombstone))) (keysOf n (take used store))) (dotsOf (take (count * 9) tombstone)))
+      ≡ inPlaceOf (dotsBytes (without (droppedDots (λ d. member compareDots d (dotsOf (take (count * dotSize) tombstone))) (keysOf n (take used store))) (dotsOf (take (count * dotSize) tombstone)))) (count * dotSize) tombstone
+  pub count-left : r .count ≡ length (without (droppedDots (λ d. member compareDots d (dotsOf (take (count * dotSize) tombstone))) (keysOf n (take used store))) (dotsOf (take (count * dotSize) tombstone)))

@@ -15,7 +15,7 @@ use Rattle.wire.proofs.Parts.{drop-take}
 use Rattle.wire.proofs.Lists.{lt-is, irreflexive, member-sound, insert-member, member-insert, ascending-insert, ascending-unique}
 use Rattle.dots.specs.declared.Dot.{Dot}
 use Rattle.dots.specs.Dots.{compareDots}
-use Rattle.dots.specs.Wire.{dotAt, dotsAt, dotsOf, placeOf}
+use Rattle.dots.specs.Wire.{dotAt, dotsAt, dotsOf, placeOf, dotSize}
 use Rattle.dots.proofs.Orders.{dots}
 use Rattle.dots.proofs.Loops.{length-dotsAt}
 
@@ -27,44 +27,44 @@ dot-drop s i j = let at : i + (j + 1) ≡ i + j + 1 = omega arith in rw (getD-dr
 pub dots-drop : (k : ℕ) (s : List ℕ) (i j : ℕ) → dotsAt k (drop i s) j ≡ dotsAt k s (i + j)
 unfolding dotsAt
 dots-drop zero s i j = refl
-dots-drop (suc k) s i j = let at : i + (j + 9) ≡ i + j + 9 = omega arith in rw (dot-drop s i j, dots-drop k s i (j + 9), at)
+dots-drop (suc k) s i j = let at : i + (j + dotSize) ≡ i + j + dotSize = omega arith in rw (dot-drop s i j, dots-drop k s i (j + dotSize), at)
 
-dot-take : (s : List ℕ) (n j : ℕ) → j + 9 ≤ n → dotAt (take n s) j ≡ dotAt s j
+dot-take : (s : List ℕ) (n j : ℕ) → j + dotSize ≤ n → dotAt (take n s) j ≡ dotAt s j
 dot-take s n j h = rw (getD-take n s j 0 (omega arith), drop-take (j + 1) n s, take-take 8 (n - (j + 1)) (drop (j + 1) s) (omega arith))
 
-pub dots-take : (k : ℕ) (s : List ℕ) (n j : ℕ) → j + 9 * k ≤ n → dotsAt k (take n s) j ≡ dotsAt k s j
+pub dots-take : (k : ℕ) (s : List ℕ) (n j : ℕ) → j + dotSize * k ≤ n → dotsAt k (take n s) j ≡ dotsAt k s j
 unfolding dotsAt
 dots-take zero s n j h = refl
-dots-take (suc k) s n j h = rw (dot-take s n j (omega arith), dots-take k s n (j + 9) (omega arith))
+dots-take (suc k) s n j h = rw (dot-take s n j (omega arith), dots-take k s n (j + dotSize) (omega arith))
 
-dots-split : (m n : ℕ) (s : List ℕ) (a : ℕ) → dotsAt (m + n) s a ≡ dotsAt m s a ++ dotsAt n s (a + m * 9)
+dots-split : (m n : ℕ) (s : List ℕ) (a : ℕ) → dotsAt (m + n) s a ≡ dotsAt m s a ++ dotsAt n s (a + m * dotSize)
 unfolding dotsAt
-dots-split zero n s a = let p : a + 0 * 9 ≡ a = omega arith in let q : 0 + n ≡ n = omega arith in rw (p, q)
+dots-split zero n s a = let p : a + 0 * dotSize ≡ a = omega arith in let q : 0 + n ≡ n = omega arith in rw (p, q)
 dots-split (suc m) n s a =
     let q : suc m + n ≡ suc (m + n) = omega arith in
-    let p : a + suc m * 9 ≡ a + 9 + m * 9 = omega arith in
-    rw (q, p) (ap (λ (l : List Dot). dotAt s a ∷ l) (dots-split m n s (a + 9)))
+    let p : a + suc m * dotSize ≡ a + dotSize + m * dotSize = omega arith in
+    rw (q, p) (ap (λ (l : List Dot). dotAt s a ∷ l) (dots-split m n s (a + dotSize)))
 
 -- the first p dots, and the others
-module _ (s : List ℕ) (p : ℕ) (low : p * 9 ≤ length s) where
-  pub dots-front : dotsOf (take (p * 9) s) ≡ dotsAt p s 0
+module _ (s : List ℕ) (p : ℕ) (low : p * dotSize ≤ length s) where
+  pub dots-front : dotsOf (take (p * dotSize) s) ≡ dotsAt p s 0
   unfolding dotsOf
   dots-front =
-      let count : length (take (p * 9) s) / 9 ≡ p = rw (length-take-le (p * 9) s low) (omega arith) in
-      rw count (dots-take p s (p * 9) 0 (omega arith))
+      let count : length (take (p * dotSize) s) / dotSize ≡ p = rw (length-take-le (p * dotSize) s low) (omega arith) in
+      rw count (dots-take p s (p * dotSize) 0 (omega arith))
 
-  pub dots-rest : dotsOf (drop (p * 9) s) ≡ dotsAt (length s / 9 - p) s (p * 9)
+  pub dots-rest : dotsOf (drop (p * dotSize) s) ≡ dotsAt (length s / dotSize - p) s (p * dotSize)
   unfolding dotsOf
   dots-rest =
-      let count : length (drop (p * 9) s) / 9 ≡ length s / 9 - p = rw length-drop (omega arith) in
-      rw (count, dots-drop (length s / 9 - p) s (p * 9) 0, add-zero)
+      let count : length (drop (p * dotSize) s) / dotSize ≡ length s / dotSize - p = rw length-drop (omega arith) in
+      rw (count, dots-drop (length s / dotSize - p) s (p * dotSize) 0, add-zero)
 
-  pub dots-around : dotsOf s ≡ dotsOf (take (p * 9) s) ++ dotsOf (drop (p * 9) s)
+  pub dots-around : dotsOf s ≡ dotsOf (take (p * dotSize) s) ++ dotsOf (drop (p * dotSize) s)
   unfolding dotsOf
   dots-around =
-      let whole : length s / 9 ≡ p + (length s / 9 - p) = omega arith in
-      ap (λ (n : ℕ). dotsAt n s 0) whole ∙ dots-split p (length s / 9 - p) s 0
-      ∙ ap₂ _++_ (sym dots-front) (ap (dotsAt (length s / 9 - p) s) (zero-add (p * 9)) ∙ sym dots-rest)
+      let whole : length s / dotSize ≡ p + (length s / dotSize - p) = omega arith in
+      ap (λ (n : ℕ). dotsAt n s 0) whole ∙ dots-split p (length s / dotSize - p) s 0
+      ∙ ap₂ _++_ (sym dots-front) (ap (dotsAt (length s / dotSize - p) s) (zero-add (p * dotSize)) ∙ sym dots-rest)
 
 -- ---- the place of a dot
 
@@ -101,10 +101,10 @@ insert-once d ds up t =
     (λ e m. member-insert compareDots dots d ds (inr m))
 
 -- a dot put between those before its place and those from it on
-pub insert-around : (d : Dot) (s : List ℕ) (p : ℕ) → p * 9 ≤ length s → p ≡ placeOf d (dotsOf s) → member compareDots d (dotsOf s) ≡ false
-    → insert compareDots d (dotsOf s) ≡ dotsOf (take (p * 9) s) ++ (d ∷ dotsOf (drop (p * 9) s))
+pub insert-around : (d : Dot) (s : List ℕ) (p : ℕ) → p * dotSize ≤ length s → p ≡ placeOf d (dotsOf s) → member compareDots d (dotsOf s) ≡ false
+    → insert compareDots d (dotsOf s) ≡ dotsOf (take (p * dotSize) s) ++ (d ∷ dotsOf (drop (p * dotSize) s))
 insert-around d s p low placed new =
-    let front : length (dotsOf (take (p * 9) s)) ≡ p = ap length (dots-front s p low) ∙ length-dotsAt p s 0 in
+    let front : length (dotsOf (take (p * dotSize) s)) ≡ p = ap length (dots-front s p low) ∙ length-dotsAt p s 0 in
     insert-split d (dotsOf s) new
     ∙ ap₂ (λ (n : ℕ) (l : List Dot). take n l ++ (d ∷ drop n l)) (sym placed) (dots-around s p low)
-    ∙ ap₂ (λ (l m : List Dot). l ++ (d ∷ m)) (take-at (dotsOf (take (p * 9) s)) (dotsOf (drop (p * 9) s)) p front) (drop-at (dotsOf (take (p * 9) s)) (dotsOf (drop (p * 9) s)) p front)
+    ∙ ap₂ (λ (l m : List Dot). l ++ (d ∷ m)) (take-at (dotsOf (take (p * dotSize) s)) (dotsOf (drop (p * dotSize) s)) p front) (drop-at (dotsOf (take (p * dotSize) s)) (dotsOf (drop (p * dotSize) s)) p front)

@@ -12,7 +12,7 @@ use Rattle.wire.proofs.Tests.{untrue, pass}
 use Rattle.wire.proofs.Lists.{lt-is, irreflexive, member-sound}
 use Rattle.dots.specs.declared.Dot.{Dot}
 use Rattle.dots.specs.Dots.{compareDots, ascendingDots}
-use Rattle.dots.specs.Wire.{dotAt, dotsAt, dotsOf, placeOf}
+use Rattle.dots.specs.Wire.{dotAt, dotsAt, dotsOf, placeOf, dotSize}
 use Rattle.dots.proofs.Orders.{dots}
 use Rattle.dots.proofs.Rules.{ascending-up}
 use Rattle.dots.proofs.Loops.{length-dotsAt, length-dotsOf, left, dots-next, dots-none}
@@ -39,28 +39,28 @@ place-below d x (a ∷ fs) bs f = step (isLt (compareDots a d)) (place-below d x
     step true h = omega arith
     step false h = omega arith
 
-module _ (s : List ℕ) (m : ℕ) (h : m < length s / 9) where
-  dots-middle : dotsOf s ≡ dotsAt m s 0 ++ (dotAt s (m * 9) ∷ left s (m + 1))
+module _ (s : List ℕ) (m : ℕ) (h : m < length s / dotSize) where
+  dots-middle : dotsOf s ≡ dotsAt m s 0 ++ (dotAt s (m * dotSize) ∷ left s (m + 1))
   dots-middle =
-      let low : m * 9 ≤ length s = omega arith in
+      let low : m * dotSize ≤ length s = omega arith in
       dots-around s m low ∙ ap₂ _++_ (dots-front s m low) (dots-rest s m low ∙ dots-next s m h)
 
-  module _ (dot d : Dot) (below : Bool) (e : d ≡ dotAt s (m * 9)) (f : below ≡ isLt (compareDots d dot)) where
-    tested : isLt (compareDots (dotAt s (m * 9)) dot) ≡ below
+  module _ (dot d : Dot) (below : Bool) (e : d ≡ dotAt s (m * dotSize)) (f : below ≡ isLt (compareDots d dot)) where
+    tested : isLt (compareDots (dotAt s (m * dotSize)) dot) ≡ below
     tested = ap (λ (x : Dot). isLt (compareDots x dot)) (sym e) ∙ sym f
 
     pub search-above : ascendingDots (dotsOf s) ≡ true → below ≡ true → m + 1 ≤ placeOf dot (dotsOf s)
     search-above up t =
         let size : length (dotsAt m s 0) ≡ m = length-dotsAt m s 0 in
-        let ascend : Ascending compareDots (dotsAt m s 0 ++ (dotAt s (m * 9) ∷ left s (m + 1))) = rw dots-middle at (ascending-up (dotsOf s) up) in
-        rw dots-middle (omega (arith, place-above dot (dotAt s (m * 9)) (dotsAt m s 0) (left s (m + 1)) ascend (tested ∙ t)))
+        let ascend : Ascending compareDots (dotsAt m s 0 ++ (dotAt s (m * dotSize) ∷ left s (m + 1))) = rw dots-middle at (ascending-up (dotsOf s) up) in
+        rw dots-middle (omega (arith, place-above dot (dotAt s (m * dotSize)) (dotsAt m s 0) (left s (m + 1)) ascend (tested ∙ t)))
 
     pub search-below : below ≡ false → placeOf dot (dotsOf s) ≤ m
     search-below t =
         let size : length (dotsAt m s 0) ≡ m = length-dotsAt m s 0 in
-        rw dots-middle (omega (arith, place-below dot (dotAt s (m * 9)) (dotsAt m s 0) (left s (m + 1)) (tested ∙ t)))
+        rw dots-middle (omega (arith, place-below dot (dotAt s (m * dotSize)) (dotsAt m s 0) (left s (m + 1)) (tested ∙ t)))
 
-pub search-start : (s : List ℕ) (dot : Dot) → placeOf dot (dotsOf s) ≤ length s / 9
+pub search-start : (s : List ℕ) (dot : Dot) → placeOf dot (dotsOf s) ≤ length s / dotSize
 search-start s dot = omega (arith, place-le dot (dotsOf s), length-dotsOf s)
 
 -- ---- the dot at a dot's place
@@ -84,21 +84,21 @@ member-placed d (x ∷ xs) up = step (compareDots d x) refl (member-placed d xs 
     step Ordering·eq e below = let q : x ≡ d = sym (dots .tie d x e) in rw (q, dots .self d, dots .self d)
     step Ordering·gt e below = rw (dots .turn d x e) below
 
-module _ (s : List ℕ) (dot : Dot) (up : ascendingDots (dotsOf s) ≡ true) (p : ℕ) (placed : p ≡ placeOf dot (dotsOf s)) (low : p * 9 ≤ length s) where
+module _ (s : List ℕ) (dot : Dot) (up : ascendingDots (dotsOf s) ≡ true) (p : ℕ) (placed : p ≡ placeOf dot (dotsOf s)) (low : p * dotSize ≤ length s) where
   at-place : member compareDots dot (dotsOf s) ≡ isFirst dot (left s p)
   at-place =
-      let front : length (dotsOf (take (p * 9) s)) ≡ p = ap length (dots-front s p low) ∙ length-dotsAt p s 0 in
+      let front : length (dotsOf (take (p * dotSize) s)) ≡ p = ap length (dots-front s p low) ∙ length-dotsAt p s 0 in
       let rest : drop p (dotsOf s) ≡ left s p =
-      ap (drop p) (dots-around s p low) ∙ drop-at (dotsOf (take (p * 9) s)) (dotsOf (drop (p * 9) s)) p front ∙ dots-rest s p low in
+      ap (drop p) (dots-around s p low) ∙ drop-at (dotsOf (take (p * dotSize) s)) (dotsOf (drop (p * dotSize) s)) p front ∙ dots-rest s p low in
       member-placed dot (dotsOf s) (ascending-up (dotsOf s) up) ∙ ap (λ (q : ℕ). isFirst dot (drop q (dotsOf s))) (sym placed) ∙ ap (isFirst dot) rest
 
   -- no dot stands there
-  pub holds-none : length s - p * 9 < 9 → false ≡ member compareDots dot (dotsOf s)
+  pub holds-none : length s - p * dotSize < dotSize → false ≡ member compareDots dot (dotsOf s)
   holds-none h = sym (at-place ∙ rw (dots-none s p (omega arith)))
 
-  pub holds-at : (d : Dot) (same : Bool) → 9 ≤ length s - p * 9 → d ≡ dotAt s (p * 9) → same ≡ isEq (compareDots dot d) → same ≡ member compareDots dot (dotsOf s)
+  pub holds-at : (d : Dot) (same : Bool) → dotSize ≤ length s - p * dotSize → d ≡ dotAt s (p * dotSize) → same ≡ isEq (compareDots dot d) → same ≡ member compareDots dot (dotsOf s)
   holds-at d same h e f = f ∙ ap (λ (x : Dot). isEq (compareDots dot x)) e ∙ sym (at-place ∙ ap (isFirst dot) (dots-next s p (omega arith)))
 
-pub holds-nothing : (s : List ℕ) (dot : Dot) → length s < 9 → false ≡ member compareDots dot (dotsOf s)
+pub holds-nothing : (s : List ℕ) (dot : Dot) → length s < dotSize → false ≡ member compareDots dot (dotsOf s)
 unfolding dotsOf dotsAt member
-holds-nothing s dot h = let none : length s / 9 ≡ 0 = omega arith in rw none
+holds-nothing s dot h = let none : length s / dotSize ≡ 0 = omega arith in rw none

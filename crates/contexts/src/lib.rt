@@ -1,12 +1,12 @@
 // Lists of dots in bytes, nine each: their rule, a dot among them, a dot put in its place.
 ghost use mathlib.Core.Path.{_≡_};
 ghost use mathlib.Core.Bool.{true};
-ghost use mathlib.Core.List.{_++_};
-ghost use Prim.Native.Nat.{_+_, _*_, _≤_};
-ghost use lib.ListN.{length, take, drop};
-ghost use Rattle.wire.specs.Lists.{member, insert};
-ghost use Rattle.dots.specs.Dots.{compareDots, dotOk, ascendingDots, contextOk};
-ghost use Rattle.dots.specs.Wire.{dotsBytes, dotsOf, placeOf};
+ghost use Prim.Native.Nat.{_*_, _≤_};
+ghost use lib.ListN.{length};
+ghost use Rattle.wire.specs.Lists.{member};
+ghost use Rattle.contexts.specs.Inserting.{MayInsert, Inserted};
+ghost use Rattle.dots.specs.Dots.{compareDots, ascendingDots, contextOk};
+ghost use Rattle.dots.specs.Wire.{dotsOf, placeOf, dotSize};
 
 // ---- dots in bytes, nine each
 
@@ -14,7 +14,7 @@ ghost use Rattle.dots.specs.Wire.{dotsBytes, dotsOf, placeOf};
 pub fn ascending_dots(dots: &[u8]) -> bool
     ensures { λ r. ⌜ r ≡ ascendingDots (dotsOf (now (dots .entry))) ⌝ }
 {
-    let n = dots.len() / 9;
+    let n = dots.len() / dots::DOT_SIZE;
     let mut ok = true;
     let mut before = dots::Dot {
         actor: dots::Actor { number: 0 },
@@ -22,7 +22,7 @@ pub fn ascending_dots(dots: &[u8]) -> bool
     };
     let mut i: usize = 0;
     while i < n {
-        let dot = dots::dot_at(dots, i * 9);
+        let dot = dots::dot_at(dots, i * dots::DOT_SIZE);
         ok = ok & dots::dot_ok(dot) & dots::dot_lower(before, dot);
         before = dot;
         i = i + 1;
@@ -35,18 +35,18 @@ pub fn context_ok(dots: &[u8]) -> bool
     ensures { λ r. ⌜ r ≡ contextOk (dotsOf (now (dots .entry))) ⌝ }
 {
     let ascend = ascending_dots(dots);
-    (dots.len() / 9 <= 16) & ascend
+    (dots.len() / dots::DOT_SIZE <= dots::CONTEXT_MOST) & ascend
 }
 
 // Whether the dot is one of the dots.
 pub fn has_dot(dots: &[u8], dot: dots::Dot) -> bool
     ensures { λ r. ⌜ r ≡ member compareDots dot (dotsOf (now (dots .entry))) ⌝ }
 {
-    let n = dots.len() / 9;
+    let n = dots.len() / dots::DOT_SIZE;
     let mut found = false;
     let mut i: usize = 0;
     while i < n {
-        let d = dots::dot_at(dots, i * 9);
+        let d = dots::dot_at(dots, i * dots::DOT_SIZE);
         found = found | dots::same_dot(dot, d);
         i = i + 1;
     }
@@ -55,12 +55,12 @@ pub fn has_dot(dots: &[u8], dot: dots::Dot) -> bool
 
 // How many dots at the front come before the dot.
 pub fn place_of(dots: &[u8], dot: dots::Dot) -> usize
-    ensures { λ r. ⌜ (r ≡ placeOf dot (dotsOf (now (dots .entry)))) × (r * 9 ≤ length (now (dots .entry))) ⌝ }
+    ensures { λ r. ⌜ (r ≡ placeOf dot (dotsOf (now (dots .entry)))) × (r * dotSize ≤ length (now (dots .entry))) ⌝ }
 {
-    let n = dots.len() / 9;
+    let n = dots.len() / dots::DOT_SIZE;
     let mut i: usize = 0;
     while i < n {
-        let d = dots::dot_at(dots, i * 9);
+        let d = dots::dot_at(dots, i * dots::DOT_SIZE);
         if !dots::dot_lower(d, dot) {
             return i;
         }
@@ -74,13 +74,13 @@ pub fn place_of(dots: &[u8], dot: dots::Dot) -> usize
 // How many of the ascending dots come before the dot, found by halving.
 pub fn search_dot(dots: &[u8], dot: dots::Dot) -> usize
     requires { ⌜ ascendingDots (dotsOf (now dots)) ≡ true ⌝ }
-    ensures { λ r. ⌜ (r ≡ placeOf dot (dotsOf (now (dots .entry)))) × (r * 9 ≤ length (now (dots .entry))) ⌝ }
+    ensures { λ r. ⌜ (r ≡ placeOf dot (dotsOf (now (dots .entry)))) × (r * dotSize ≤ length (now (dots .entry))) ⌝ }
 {
     let mut low: usize = 0;
-    let mut high = dots.len() / 9;
+    let mut high = dots.len() / dots::DOT_SIZE;
     while low < high {
         let middle = low + (high - low) / 2;
-        let d = dots::dot_at(dots, middle * 9);
+        let d = dots::dot_at(dots, middle * dots::DOT_SIZE);
         if dots::dot_lower(d, dot) {
             low = middle + 1;
         } else {
@@ -95,11 +95,11 @@ pub fn holds_dot(dots: &[u8], dot: dots::Dot) -> bool
     requires { ⌜ ascendingDots (dotsOf (now dots)) ≡ true ⌝ }
     ensures { λ r. ⌜ r ≡ member compareDots dot (dotsOf (now (dots .entry))) ⌝ }
 {
-    if dots.len() < 9 {
+    if dots.len() < dots::DOT_SIZE {
         return false;
     }
-    let at = search_dot(dots, dot) * 9;
-    if dots.len() - at < 9 {
+    let at = search_dot(dots, dot) * dots::DOT_SIZE;
+    if dots.len() - at < dots::DOT_SIZE {
         return false;
     }
     dots::same_dot(dot, dots::dot_at(dots, at))
@@ -107,23 +107,23 @@ pub fn holds_dot(dots: &[u8], dot: dots::Dot) -> bool
 
 // Puts the dot in its place among the first `count`, which ascend, once. Returns how many there are then.
 fn insert_among(bytes: &mut [u8], count: usize, dot: dots::Dot) -> usize
-    requires { ⌜ (length (now bytes) ≡ 1152) × (count ≤ 128) × (ascendingDots (dotsOf (take (count * 9) (now bytes))) ≡ true) × (dotOk dot ≡ true) × (length (insert compareDots dot (dotsOf (take (count * 9) (now bytes)))) ≤ 128) ⌝ }
-    ensures { λ r. ⌜ (r ≡ length (insert compareDots dot (dotsOf (take (count * 9) (now (bytes .entry)))))) × (now (bytes .exit) ≡ dotsBytes (insert compareDots dot (dotsOf (take (count * 9) (now (bytes .entry))))) ++ drop (r * 9) (now (bytes .entry))) ⌝ }
+    requires { ⌜ MayInsert (now bytes) count dot ⌝ }
+    ensures { λ r. ⌜ Inserted (now (bytes .entry)) (now (bytes .exit)) count dot r ⌝ }
 {
-    let used = count * 9;
+    let used = count * dots::DOT_SIZE;
     if holds_dot(&bytes[..used], dot) {
         return count;
     }
-    let at = search_dot(&bytes[..used], dot) * 9;
+    let at = search_dot(&bytes[..used], dot) * dots::DOT_SIZE;
     let piece = dots::dot_bytes(dot);
     moves::insert_piece(bytes, used, at, &piece);
     count + 1
 }
 
 // The same in the bytes of a tombstone.
-pub fn insert_dot(bytes: &mut [u8; 1152], count: usize, dot: dots::Dot) -> usize
-    requires { ⌜ (length (now bytes) ≡ 1152) × (count ≤ 128) × (ascendingDots (dotsOf (take (count * 9) (now bytes))) ≡ true) × (dotOk dot ≡ true) × (length (insert compareDots dot (dotsOf (take (count * 9) (now bytes)))) ≤ 128) ⌝ }
-    ensures { λ r. ⌜ (r ≡ length (insert compareDots dot (dotsOf (take (count * 9) (now (bytes .entry)))))) × (now (bytes .exit) ≡ dotsBytes (insert compareDots dot (dotsOf (take (count * 9) (now (bytes .entry))))) ++ drop (r * 9) (now (bytes .entry))) ⌝ }
+pub fn insert_dot(bytes: &mut [u8; dots::TOMBSTONE_SIZE], count: usize, dot: dots::Dot) -> usize
+    requires { ⌜ MayInsert (now bytes) count dot ⌝ }
+    ensures { λ r. ⌜ Inserted (now (bytes .entry)) (now (bytes .exit)) count dot r ⌝ }
 {
     insert_among(bytes, count, dot)
 }

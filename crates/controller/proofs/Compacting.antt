@@ -1,20 +1,20 @@
 -- Compacting the store and the tombstone of an undamaged state writes back its machine's compaction. Assumes nothing.
 use Prim.Native.Nat.{ℕ, _-_, _*_, _≤_, max}
-use mathlib.Core.Path.{_≡_, refl, sym, ap, ap₂, subst, _∙_}
+use mathlib.Core.Path.{_≡_, refl, sym, ap, subst, _∙_}
 use mathlib.Core.Bool.{Bool, true, false, not, cond, _||_}
-use mathlib.Core.List.{[], _∷_, _++_, map, append-assoc}
+use mathlib.Core.List.{[], _++_, map, append-assoc}
 use native.Mathlib.Omega.{arith}
 use lib.Dec.{eqb}
 use lib.ListN.{length, take, drop, replicate, length-drop, take-append-drop}
 use borrow.Author.Tests.{leb-true, eqb-true}
 use Rattle.wire.specs.Lists.{all, member}
 use Rattle.wire.specs.Bytes.{Bytes}
-use Rattle.wire.proofs.Tests.{both, both-left, both-right}
+use Rattle.wire.proofs.Tests.{both}
 use Rattle.dots.specs.declared.Answer.{Answer}
 use Rattle.dots.specs.declared.Answer.the-variants.{Done, Damaged}
 use Rattle.dots.specs.declared.Dot.{Dot}
-use Rattle.dots.specs.Dots.{compareDots, ascendingDots}
-use Rattle.dots.specs.Wire.{dotsBytes}
+use Rattle.dots.specs.Dots.{compareDots, ascendingDots, tombstoneMost}
+use Rattle.dots.specs.Wire.{dotsBytes, dotSize, tombstoneSize}
 use Rattle.dots.proofs.Loops.{length-dotsAt}
 use Rattle.contexts.proofs.Places.{dots-front}
 use Rattle.dots.proofs.RoundTrip.{length-dots}
@@ -31,22 +31,16 @@ use Rattle.compaction.proofs.CompactedEntries.{store-left, used-left, tombstone
 use Rattle.replica.specs.Machine.{live, droppedDots, compacted, effect}
 use Rattle.calls.specs.declared.State.{State}
 use Rattle.calls.specs.declared.Outcome.{Outcome}
-use Rattle.calls.specs.State.{clockModel, Machine, nameOf, tombstoneDots, usedPart, entries, view}
+use Rattle.calls.specs.State.{clockModel, Machine, nameOf, tombstoneDots, usedPart, entries, view, Sized}
 use Rattle.calls.specs.Damage.{zeroFrom, stateNameOk, tombstoneOk, damaged}
 use Rattle.calls.specs.Effect.{padded, keysPart, stateOf, storeOf}
 use Rattle.steps.specs.Tests.{stateWith}
 use Rattle.calls.specs.Calls.{Result, refused, compactResult, compactDone}
 use Rattle.calls.specs.Promise.{Leaves}
-use Rattle.steps.proofs.Parts.{front-size}
+use Rattle.judging.proofs.Parts.{front-size}
 use Rattle.calls.proofs.Clauses.{Undamaged, undamaged, used-fits, entries-of}
-use Rattle.calls.proofs.Whole.{keep-size}
-
--- ---- bytes that are 0
-
-zeros-are : (s : Bytes) → all (λ b. eqb b 0) s ≡ true → s ≡ replicate (length s) 0
-unfolding all
-zeros-are [] h = refl
-zeros-are (b ∷ s) h = ap₂ _∷_ (eqb-true b 0 (both-left (eqb b 0) (all (λ x. eqb x 0) s) h)) (zeros-are s (both-right (eqb b 0) (all (λ x. eqb x 0) s) h))
+use Rattle.calls.proofs.Whole.{keep-size, zeros-are}
+use Rattle.dots.specs.Names.{nameMost}
 
 -- bytes that are 0 past the first n
 pub padded-front : (n m : ℕ) (s : Bytes) → length s ≡ m → n ≤ m → zeroFrom n s ≡ true → s ≡ padded m (take n s)
@@ -57,26 +51,26 @@ padded-front n m s size fits h =
 
 -- ---- an undamaged state compacted
 
-module _ (st : State) (store : Bytes) (h : damaged st store ≡ false) (named : length (st .name .bytes) ≡ 16) (size : length (st .tombstone .bytes) ≡ 1152) where
+module _ (st : State) (store : Bytes) (h : damaged st store ≡ false) (sized : Sized st) where
   u : Undamaged st store
   u = undamaged st store h
 
   name-length : length (nameOf st) ≡ st .name .len
   unfolding stateNameOk
-  name-length = let n = u .name in let short : st .name .len ≤ 16 = leb-true _ _ (search both) in sym (front-size (st .name .bytes) (st .name .len) (omega arith))
+  name-length = let n = u .name in let size = sized .name-size in let short : st .name .len ≤ nameMost = leb-true _ _ (search both) in sym (front-size (st .name .bytes) (st .name .len) (omega arith))
 
-  few : st .tombstone .count ≤ 128
+  few : st .tombstone .count ≤ tombstoneMost
   unfolding tombstoneOk
   few = let t = u .tombstone in leb-true _ _ (search both)
 
   -- what the store's compaction requires
-  pub compact-may : (st .name .len ≤ 16) × (st .used ≤ length store) × (st .tombstone .count ≤ 128) × (length (st .tombstone .bytes) ≡ 1152)
+  pub compact-may : (st .name .len ≤ nameMost) × (st .used ≤ length store) × (st .tombstone .count ≤ tombstoneMost) × (length (st .tombstone .bytes) ≡ tombstoneSize)
       × (keysFit (st .name .len) (take (st .used) store) ≡ true) × (ascendingDots (tombstoneDots st) ≡ true)
   unfolding stateNameOk tombstoneOk
   compact-may =
       let n = u .name in
       let t = u .tombstone in
-      (leb-true _ _ (search both), used-fits st store u, few, size, rw name-length at (entries-of st store u .fit), search both)
+      (leb-true _ _ (search both), used-fits st store u, few, sized .tombstone-size, rw name-length at (entries-of st store u .fit), search both)
 
   abbrev after : Machine
   after = compacted clockModel (view st store)
@@ -97,22 +91,22 @@ module _ (st : State) (store : Bytes) (h : damaged st store ≡ false) (named : 
       let most : max (st .used) (length (keysPart st after)) ≡ st .used = omega (arith, fewer-bytes) in
       sym (append-assoc (keysPart st after) (replicate (st .used - length (keysPart st after)) 0) (drop (st .used) store)) ∙ ap (λ (k : ℕ). padded (st .used) (keysPart st after) ++ drop k store) (sym most)
 
-  fewer-dots : length (dotsBytes (after .tombstone)) ≤ st .tombstone .count * 9
+  fewer-dots : length (dotsBytes (after .tombstone)) ≤ st .tombstone .count * dotSize
   unfolding compacted view
   fewer-dots =
       let kept = keep-shorter (λ (d : Dot). not (member compareDots d (droppedDots clockModel (view st store)))) (tombstoneDots st) in
       let all : length (tombstoneDots st) ≡ st .tombstone .count = ap length (dots-front (st .tombstone .bytes) (st .tombstone .count) (omega (arith, few))) ∙ length-dotsAt (st .tombstone .count) (st .tombstone .bytes) 0 in
       omega (arith, length-dots (after .tombstone))
 
-  tombstone-compacted : inPlaceOf (dotsBytes (after .tombstone)) (st .tombstone .count * 9) (st .tombstone .bytes) ≡ padded 1152 (dotsBytes (after .tombstone))
+  tombstone-compacted : inPlaceOf (dotsBytes (after .tombstone)) (st .tombstone .count * dotSize) (st .tombstone .bytes) ≡ padded tombstoneSize (dotsBytes (after .tombstone))
   unfolding tombstoneOk
   tombstone-compacted =
       let t = u .tombstone in
-      let front : Bytes = take (st .tombstone .count * 9) (st .tombstone .bytes) in
-      let room : st .tombstone .count * 9 ≤ 1152 = omega (arith, few) in
-      let zeros : st .tombstone .bytes ≡ padded 1152 (take (st .tombstone .count * 9) (st .tombstone .bytes)) = padded-front (st .tombstone .count * 9) 1152 (st .tombstone .bytes) size room (search both) in
-      ap (inPlaceOf (dotsBytes (after .tombstone)) (st .tombstone .count * 9)) zeros
-      ∙ in-place-padded (dotsBytes (after .tombstone)) front (st .tombstone .count * 9) 1152 (sym (front-size (st .tombstone .bytes) (st .tombstone .count * 9) (omega arith))) fewer-dots room
+      let front : Bytes = take (st .tombstone .count * dotSize) (st .tombstone .bytes) in
+      let room : st .tombstone .count * dotSize ≤ tombstoneSize = omega (arith, few) in
+      let zeros : st .tombstone .bytes ≡ padded tombstoneSize (take (st .tombstone .count * dotSize) (st .tombstone .bytes)) = padded-front (st .tombstone .count * dotSize) tombstoneSize (st .tombstone .bytes) (sized .tombstone-size) room (search both) in
+      ap (inPlaceOf (dotsBytes (after .tombstone)) (st .tombstone .count * dotSize)) zeros
+      ∙ in-place-padded (dotsBytes (after .tombstone)) front (st .tombstone .count * dotSize) tombstoneSize (sym (front-size (st .tombstone .bytes) (st .tombstone .count * dotSize) (omega arith))) fewer-dots room
 
   -- what it leaves
   module _ (store′ tombstone′ : Bytes) (r : Compacted) (c : Compacts (st .name .len) (st .used) (st .tombstone .count) store (st .tombstone .bytes) store′ tombstone′ r) where
@@ -127,7 +121,7 @@ module _ (st : State) (store : Bytes) (h : damaged st store ≡ false) (named : 
     unfolding compacted view
     used-is = used-left (nameOf st) (st .used) (st .tombstone .count) store (st .tombstone .bytes) store′ tombstone′ r of-name (entries st store) (entries-of st store u .valid) keys
 
-    bytes-are : tombstone′ ≡ padded 1152 (dotsBytes (after .tombstone))
+    bytes-are : tombstone′ ≡ padded tombstoneSize (dotsBytes (after .tombstone))
     unfolding compacted view
     bytes-are = tombstone-left (nameOf st) (st .used) (st .tombstone .count) store (st .tombstone .bytes) store′ tombstone′ r of-name (entries st store) (entries-of st store u .valid) keys ∙ tombstone-compacted
 
@@ -162,10 +156,10 @@ module _ (st : State) (store : Bytes) where
   result-done h = rw h
 
   -- refused, or with no dots in the tombstone
-  module _ (named : length (st .name .bytes) ≡ 16) (size : length (st .tombstone .bytes) ≡ 1152) where
+  module _ (sized : Sized st) where
     by-damage : (damage : Bool) → damage ≡ damaged st store → (damage || eqb (st .tombstone .count) 0) ≡ true → Leaves (compactResult st store) store [] (record { answer = cond damage Damaged Done; state = st; written = 0 })
     by-damage true d h = rw (result-refused (sym d)) (record { answered = refl; state-is = refl; written-is = refl; store-is = refl; out-is = refl })
-    by-damage false d h = rw (result-done (sym d)) (compact-none st store (sym d) named size (eqb-true (st .tombstone .count) 0 h))
+    by-damage false d h = rw (result-done (sym d)) (compact-none st store (sym d) sized (eqb-true (st .tombstone .count) 0 h))
 
     pub compact-kept : (damage : Bool) (a : Answer) → damage ≡ damaged st store → (damage || eqb (st .tombstone .count) 0) ≡ true → a ≡ cond damage Damaged Done
         → Leaves (compactResult st store) store [] (record { answer = a; state = st; written = 0 })
@@ -175,9 +169,9 @@ module _ (st : State) (store : Bytes) where
   compact-done store′ r h left = rw (result-done h) left
 
   -- with no dots in the tombstone the state stays, refused or not
-  pub compact-same : length (st .name .bytes) ≡ 16 → length (st .tombstone .bytes) ≡ 1152 → st .tombstone .count ≡ 0 → compactResult st store .state ≡ st
-  compact-same named size e = by-test (damaged st store) refl
+  pub compact-same : Sized st → st .tombstone .count ≡ 0 → compactResult st store .state ≡ st
+  compact-same sized e = by-test (damaged st store) refl
     where
       by-test : (b : Bool) → damaged st store ≡ b → compactResult st store .state ≡ st
       by-test true h = ap (λ (r : Result). r .state) (result-refused h)
-      by-test false h = ap (λ (r : Result). r .state) (result-done h) ∙ sym (compact-none st store h named size e .state-is)
+      by-test false h = ap (λ (r : Result). r .state) (result-done h) ∙ sym (compact-none st store h sized e .state-is)

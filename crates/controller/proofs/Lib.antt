@@ -1,4 +1,2 @@
--- TakeIn: taking in. ReadCalls: listing and lookup. Compacting: compaction.
-pub mod TakeIn
-pub mod ReadCalls
+-- Compacting: compaction.
 pub mod Compacting

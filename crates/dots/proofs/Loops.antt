@@ -10,38 +10,38 @@ use lib.ListN.{length}
 use Rattle.wire.specs.Lists.{isLt, member}
 use Rattle.dots.specs.declared.Dot.{Dot}
 use Rattle.dots.specs.Dots.{compareDots, dotOk}
-use Rattle.dots.specs.Wire.{dotAt, dotsAt, dotsOf, placeOf}
+use Rattle.dots.specs.Wire.{dotAt, dotsAt, dotsOf, placeOf, dotSize}
 use Rattle.dots.proofs.Rules.{ascendAfter}
 
 pub length-dotsAt : (n : ℕ) (s : List ℕ) (at : ℕ) → length (dotsAt n s at) ≡ n
 unfolding dotsAt
 length-dotsAt zero s at = refl
-length-dotsAt (suc n) s at = ap suc (length-dotsAt n s (at + 9))
+length-dotsAt (suc n) s at = ap suc (length-dotsAt n s (at + dotSize))
 
-pub length-dotsOf : (s : List ℕ) → length (dotsOf s) ≡ length s / 9
+pub length-dotsOf : (s : List ℕ) → length (dotsOf s) ≡ length s / dotSize
 unfolding dotsOf
-length-dotsOf s = length-dotsAt (length s / 9) s 0
+length-dotsOf s = length-dotsAt (length s / dotSize) s 0
 
 -- ---- the dots that are left
 
 abbrev pub left : List ℕ → ℕ → List Dot
-left s i = dotsAt (length s / 9 - i) s (i * 9)
+left s i = dotsAt (length s / dotSize - i) s (i * dotSize)
 
 module _ (s : List ℕ) where
   pub dots-start : left s 0 ≡ dotsOf s
   unfolding dotsOf
   dots-start = rw sub-zero
 
-  pub dots-next : (i : ℕ) → i < length s / 9 → left s i ≡ dotAt s (i * 9) ∷ left s (i + 1)
+  pub dots-next : (i : ℕ) → i < length s / dotSize → left s i ≡ dotAt s (i * dotSize) ∷ left s (i + 1)
   unfolding dotsAt
   dots-next i h =
-      let more : length s / 9 - i ≡ suc (length s / 9 - (i + 1)) = omega arith in
-      let at : i * 9 + 9 ≡ (i + 1) * 9 = omega arith in
+      let more : length s / dotSize - i ≡ suc (length s / dotSize - (i + 1)) = omega arith in
+      let at : i * dotSize + dotSize ≡ (i + 1) * dotSize = omega arith in
       rw (more, at)
 
-  pub dots-none : (i : ℕ) → length s / 9 ≤ i → left s i ≡ []
+  pub dots-none : (i : ℕ) → length s / dotSize ≤ i → left s i ≡ []
   unfolding dotsAt
-  dots-none i h = let none : length s / 9 - i ≡ 0 = omega arith in rw none
+  dots-none i h = let none : length s / dotSize - i ≡ 0 = omega arith in rw none
 
 -- ---- a test of every dot
 
@@ -55,11 +55,11 @@ ascend-step true before d ds = step (dotOk d)
 ascend-step false before d ds = refl
 
 module _ (s : List ℕ) (i : ℕ) (before : Dot) (whole ok : Bool) (inv : whole ≡ (ok && ascendAfter before (left s i))) where
-  pub ascend-turn : (d : Dot) (rule above : Bool) → i < length s / 9 → d ≡ dotAt s (i * 9) → rule ≡ dotOk d → above ≡ isLt (compareDots before d)
+  pub ascend-turn : (d : Dot) (rule above : Bool) → i < length s / dotSize → d ≡ dotAt s (i * dotSize) → rule ≡ dotOk d → above ≡ isLt (compareDots before d)
       → whole ≡ (((ok && rule) && above) && ascendAfter d (left s (i + 1)))
   ascend-turn d rule above h e f g = (rw (dots-next s i h, ← e) at inv) ∙ rw (f, g) (ascend-step ok before d (left s (i + 1)))
 
-  pub ascend-end : length s / 9 ≤ i → ok ≡ whole
+  pub ascend-end : length s / dotSize ≤ i → ok ≡ whole
   unfolding ascendAfter
   ascend-end h = sym (rw (dots-none s i h, and-true) at inv)
 
@@ -70,32 +70,32 @@ or-step true same rest = refl
 or-step false same rest = refl
 
 module _ (s : List ℕ) (i : ℕ) (dot : Dot) (whole found : Bool) (inv : whole ≡ (found || member compareDots dot (left s i))) where
-  pub member-turn : (d : Dot) (same : Bool) → i < length s / 9 → d ≡ dotAt s (i * 9) → same ≡ isEq (compareDots dot d)
+  pub member-turn : (d : Dot) (same : Bool) → i < length s / dotSize → d ≡ dotAt s (i * dotSize) → same ≡ isEq (compareDots dot d)
       → whole ≡ ((found || same) || member compareDots dot (left s (i + 1)))
   unfolding member
-  member-turn d same h e f = (rw (dots-next s i h) at inv) ∙ rw (f, e) (or-step found (isEq (compareDots dot (dotAt s (i * 9)))) (member compareDots dot (left s (i + 1))))
+  member-turn d same h e f = (rw (dots-next s i h) at inv) ∙ rw (f, e) (or-step found (isEq (compareDots dot (dotAt s (i * dotSize)))) (member compareDots dot (left s (i + 1))))
 
-  pub member-end : length s / 9 ≤ i → found ≡ whole
+  pub member-end : length s / dotSize ≤ i → found ≡ whole
   unfolding member
   member-end h = sym (rw (dots-none s i h, or-false) at inv)
 
 -- ---- the place of a dot
 
 module _ (s : List ℕ) (i : ℕ) (dot : Dot) (whole : ℕ) (inv : whole ≡ i + placeOf dot (left s i)) where
-  pub place-here : (d : Dot) (below : Bool) → i < length s / 9 → d ≡ dotAt s (i * 9) → below ≡ isLt (compareDots d dot) → below ≡ false → i ≡ whole
+  pub place-here : (d : Dot) (below : Bool) → i < length s / dotSize → d ≡ dotAt s (i * dotSize) → below ≡ isLt (compareDots d dot) → below ≡ false → i ≡ whole
   unfolding placeOf
   place-here d below h e f t =
-      let test : isLt (compareDots (dotAt s (i * 9)) dot) ≡ false = ap (λ (x : Dot). isLt (compareDots x dot)) (sym e) ∙ sym f ∙ t in
+      let test : isLt (compareDots (dotAt s (i * dotSize)) dot) ≡ false = ap (λ (x : Dot). isLt (compareDots x dot)) (sym e) ∙ sym f ∙ t in
       let here : placeOf dot (left s i) ≡ 0 = rw (dots-next s i h, test) in
       omega arith
 
-  pub place-on : (d : Dot) (below : Bool) → i < length s / 9 → d ≡ dotAt s (i * 9) → below ≡ isLt (compareDots d dot) → below ≡ true → whole ≡ i + 1 + placeOf dot (left s (i + 1))
+  pub place-on : (d : Dot) (below : Bool) → i < length s / dotSize → d ≡ dotAt s (i * dotSize) → below ≡ isLt (compareDots d dot) → below ≡ true → whole ≡ i + 1 + placeOf dot (left s (i + 1))
   unfolding placeOf
   place-on d below h e f t =
-      let test : isLt (compareDots (dotAt s (i * 9)) dot) ≡ true = ap (λ (x : Dot). isLt (compareDots x dot)) (sym e) ∙ sym f ∙ t in
+      let test : isLt (compareDots (dotAt s (i * dotSize)) dot) ≡ true = ap (λ (x : Dot). isLt (compareDots x dot)) (sym e) ∙ sym f ∙ t in
       let on : placeOf dot (left s i) ≡ suc (placeOf dot (left s (i + 1))) = rw (dots-next s i h, test) in
       omega arith
 
-  pub place-end : length s / 9 ≤ i → i ≡ whole
+  pub place-end : length s / dotSize ≤ i → i ≡ whole
   unfolding placeOf
   place-end h = let none : placeOf dot (left s i) ≡ 0 = rw (dots-none s i h) in omega arith

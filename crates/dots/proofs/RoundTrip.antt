@@ -13,14 +13,14 @@ use Rattle.wire.proofs.ByteOrder.{compare-bigEndian}
 use Rattle.wire.proofs.Fields.{byte-on, number-on, byte-back, number-back}
 use Rattle.dots.specs.declared.Dot.{Dot}
 use Rattle.dots.specs.Dots.{compareDots, dotOk}
-use Rattle.dots.specs.Wire.{dotBytes, dotsBytes, dotAt, dotsAt, dotsOf}
+use Rattle.dots.specs.Wire.{dotBytes, dotsBytes, dotAt, dotsAt, dotsOf, dotSize}
 use Rattle.dots.proofs.Rules.{valid}
 
-pub length-dot : (d : Dot) → length (dotBytes d) ≡ 9
+pub length-dot : (d : Dot) → length (dotBytes d) ≡ dotSize
 unfolding dotBytes
 length-dot d = rw (length-bigEndian 8 (d .counter .number))
 
-pub length-dots : (ds : List Dot) → length (dotsBytes ds) ≡ 9 * length ds
+pub length-dots : (ds : List Dot) → length (dotsBytes ds) ≡ dotSize * length ds
 unfolding dotsBytes
 length-dots [] = refl
 length-dots (d ∷ ds) = rw (length-append (dotBytes d) (dotsBytes ds), length-dot) (omega (arith, length-dots ds))
@@ -30,18 +30,18 @@ unfolding dotsBytes
 dots-append [] es = refl
 dots-append (d ∷ ds) es = rw (dots-append ds es, append-assoc)
 
-counter-fits : (d : Dot) → dotOk d ≡ true → d .counter .number < 256 ^ 8
+pub counter-fits : (d : Dot) → dotOk d ≡ true → d .counter .number < 256 ^ 8
 counter-fits d ok = let high = valid d ok .counter-high in omega arith
 
 -- ---- written, then read
 
 module _ (s : List ℕ) where
-  pub dot-on : (i : ℕ) (d : Dot) (t : List ℕ) → dotOk d ≡ true → drop i s ≡ dotBytes d ++ t → (dotAt s i ≡ d) × (drop (i + 9) s ≡ t)
+  pub dot-on : (i : ℕ) (d : Dot) (t : List ℕ) → dotOk d ≡ true → drop i s ≡ dotBytes d ++ t → (dotAt s i ≡ d) × (drop (i + dotSize) s ≡ t)
   unfolding dotBytes
   dot-on i d t ok h =
       let first = byte-on s i (d .actor .number) (bigEndian 8 (d .counter .number) ++ t) h in
       let rest = number-on s 8 (i + 1) (d .counter .number) t (counter-fits d ok) (first .1) in
-      let nine : i + 1 + 8 ≡ i + 9 = omega arith in
+      let nine : i + 1 + 8 ≡ i + dotSize = omega arith in
       (rw (first .0, rest .0), rw nine at (rest .1))
 
   pub dots-on : (ds : List Dot) (i : ℕ) (t : List ℕ) → all dotOk ds ≡ true → drop i s ≡ dotsBytes ds ++ t → dotsAt (length ds) s i ≡ ds
@@ -49,31 +49,31 @@ module _ (s : List ℕ) where
   dots-on [] i t ok h = refl
   dots-on (d ∷ ds) i t ok h =
       let first = dot-on i d (dotsBytes ds ++ t) (both-left (dotOk d) (all dotOk ds) ok) (rw append-assoc at h) in
-      rw (first .0, dots-on ds (i + 9) t (both-right (dotOk d) (all dotOk ds) ok) (first .1))
+      rw (first .0, dots-on ds (i + dotSize) t (both-right (dotOk d) (all dotOk ds) ok) (first .1))
 
 pub dots-written : (ds : List Dot) → all dotOk ds ≡ true → dotsOf (dotsBytes ds) ≡ ds
 unfolding dotsOf
 dots-written ds ok =
-    let count : length (dotsBytes ds) / 9 ≡ length ds = rw length-dots (omega arith) in
+    let count : length (dotsBytes ds) / dotSize ≡ length ds = rw length-dots (omega arith) in
     rw count (dots-on (dotsBytes ds) ds 0 [] ok (sym (append-nil (dotsBytes ds))))
 
 -- ---- read, then written
 
 module _ (s : List ℕ) (small : AreBytes s) where
-  pub dot-back : (i : ℕ) → i + 9 ≤ length s → dotBytes (dotAt s i) ++ drop (i + 9) s ≡ drop i s
+  pub dot-back : (i : ℕ) → i + dotSize ≤ length s → dotBytes (dotAt s i) ++ drop (i + dotSize) s ≡ drop i s
   unfolding dotBytes
   dot-back i h =
-      let nine : i + 9 ≡ i + 1 + 8 = omega arith in
+      let nine : i + dotSize ≡ i + 1 + 8 = omega arith in
       rw (nine, number-back s small 8 (i + 1) (omega arith)) (byte-back s i (omega arith))
 
-  pub dots-back : (n i : ℕ) → i + 9 * n ≡ length s → dotsBytes (dotsAt n s i) ≡ drop i s
+  pub dots-back : (n i : ℕ) → i + dotSize * n ≡ length s → dotsBytes (dotsAt n s i) ≡ drop i s
   unfolding dotsBytes dotsAt
   dots-back zero i h = let end : length s ≤ i = omega arith in sym (drop-of-length-le s end)
-  dots-back (suc n) i h = rw (dots-back n (i + 9) (omega arith)) (dot-back i (omega arith))
+  dots-back (suc n) i h = rw (dots-back n (i + dotSize) (omega arith)) (dot-back i (omega arith))
 
-  pub dots-read : length s % 9 ≡ 0 → dotsBytes (dotsOf s) ≡ s
+  pub dots-read : length s % dotSize ≡ 0 → dotsBytes (dotsOf s) ≡ s
   unfolding dotsOf
-  dots-read h = dots-back (length s / 9) 0 (omega arith)
+  dots-read h = dots-back (length s / dotSize) 0 (omega arith)
 
 -- ---- plain byte order of dots in bytes is their order
 

@@ -1,7 +1,7 @@
 -- Dots and contexts. Actors, counters and dots are the structs of src/lib.rt: an actor and a counter cannot be mixed up there or here.
-use Prim.Native.Nat.{ℕ, _-_, _^_, compare, Ordering}
+use Prim.Native.Nat.{ℕ, zero, suc, _+_, _-_, _^_, compare, Ordering}
 use mathlib.Core.Bool.{Bool, _&&_}
-use mathlib.Core.List.{List}
+use mathlib.Core.List.{List, [], _∷_}
 use lib.Dec.{leb}
 use lib.ListN.{length}
 use Rattle.wire.specs.Lists.{then, all, ascends}
@@ -63,3 +63,12 @@ contextMost = 16
 
 abbrev pub contextOk : Context → Bool
 contextOk ds = leb (length ds) contextMost && ascendingDots ds
+
+-- k dots of an actor, from counter n on
+abbrev pub consecutive : Actor → ℕ → ℕ → List Dot
+consecutive a n zero = []
+consecutive a n (suc k) = dotOf a n ∷ consecutive a (n + 1) k
+
+-- "Tombstone: 0 to 128 dots, strictly ascending"
+abbrev pub tombstoneMost : ℕ
+tombstoneMost = 128

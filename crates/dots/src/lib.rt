@@ -8,7 +8,24 @@ ghost use Rattle.wire.specs.Lists.{isLt};
 ghost use Rattle.dots.specs.Answer.{numberOf};
 ghost use Rattle.dots.specs.Names.{textOk, nameOk, labelOk};
 ghost use Rattle.dots.specs.Dots.{compareDots, dotOk};
-ghost use Rattle.dots.specs.Wire.{dotBytes, dotAt};
+ghost use Rattle.dots.specs.Wire.{dotBytes, dotAt, dotSize};
+
+// ---- limits
+
+// Actors are 1 to this.
+pub const ACTOR_MOST: u8 = 16;
+// Bytes of a set name and of a label, at most.
+pub const NAME_MOST: usize = 16;
+
+pub const LABEL_MOST: usize = 32;
+// Dots of a context and of the tombstone, at most; bytes of a dot.
+pub const CONTEXT_MOST: usize = 16;
+
+pub const TOMBSTONE_MOST: usize = 128;
+
+pub const DOT_SIZE: usize = 9;
+// The bytes of a tombstone.
+pub const TOMBSTONE_SIZE: usize = TOMBSTONE_MOST * DOT_SIZE;
 
 // ---- answers
 
@@ -72,13 +89,13 @@ fn text_ok(most: usize, text: &[u8]) -> bool
 pub fn name_ok(name: &[u8]) -> bool
     ensures { λ r. ⌜ r ≡ nameOk (now (name .entry)) ⌝ }
 {
-    text_ok(16, name)
+    text_ok(NAME_MOST, name)
 }
 
 pub fn label_ok(label: &[u8]) -> bool
     ensures { λ r. ⌜ r ≡ labelOk (now (label .entry)) ⌝ }
 {
-    text_ok(32, label)
+    text_ok(LABEL_MOST, label)
 }
 
 // ---- dots
@@ -118,14 +135,14 @@ pub fn same_dot(a: Dot, b: Dot) -> bool
 pub fn dot_ok(dot: Dot) -> bool
     ensures { λ r. ⌜ r ≡ dotOk dot ⌝ }
 {
-    (1 <= dot.actor.number) & (dot.actor.number <= 16) & (1 <= dot.counter.number)
+    (1 <= dot.actor.number) & (dot.actor.number <= ACTOR_MOST) & (1 <= dot.counter.number)
 }
 
 // ---- dots in bytes, nine each
 
 // The dot in the 9 bytes from a place on.
 pub fn dot_at(s: &[u8], at: usize) -> Dot
-    requires { ⌜ at + 9 ≤ length (now s) ⌝ }
+    requires { ⌜ at + dotSize ≤ length (now s) ⌝ }
     ensures { λ r. ⌜ r ≡ dotAt (now (s .entry)) at ⌝ }
 {
     let actor = s[at];
@@ -137,7 +154,7 @@ pub fn dot_at(s: &[u8], at: usize) -> Dot
 }
 
 // A dot in 9 bytes.
-pub fn dot_bytes(dot: Dot) -> [u8; 9]
+pub fn dot_bytes(dot: Dot) -> [u8; DOT_SIZE]
     ensures { λ r. ⌜ r ≡ dotBytes dot ⌝ }
 {
     let c = wire::number_bytes(dot.counter.number);

@@ -3,7 +3,7 @@ use mathlib.Core.Path.{_≡_, refl, ap, _∙_}
 use mathlib.Core.Bool.{Bool, true, false, cond, _&&_}
 use mathlib.Core.List.{_++_, append-assoc}
 use mathlib.Core.Option.{none, some}
-use Prim.Native.Nat.{ℕ, _+_, _^_, _<_}
+use Prim.Native.Nat.{ℕ, _+_}
 use native.Mathlib.Omega.{arith}
 use lib.Dec.{isEq}
 use lib.ListN.{length, length-append}
@@ -19,8 +19,9 @@ use Rattle.dots.specs.Names.{Name, nameOk, labelOk, labelMost}
 use Rattle.dots.specs.Dots.{dotOk, actorOk, counterOk}
 use Rattle.dots.specs.Entries.{Entry, compareEntries}
 use Rattle.dots.proofs.Rules.{valid}
+use Rattle.dots.proofs.RoundTrip.{counter-fits}
 use Rattle.keys.specs.declared.KeyKind.the-variants.{LabelKey}
-use Rattle.keys.specs.Key.{Key, namesOk, keyCounterOk, afterType, keyBytes}
+use Rattle.keys.specs.Key.{Key, namesOk, keyCounterOk, afterType, keyBytes, labelKeyFixed, suffixSize, prefixFixed}
 use Rattle.keys.specs.Read.{fieldsAs, isKey}
 use Rattle.keys.specs.Entry.{entryOk, labelKeyOf, entryKey, prefix, suffix, entryOf, keyEntry}
 use Rattle.keys.specs.Parts.{actorCounter}
@@ -36,15 +37,15 @@ pub entry-key-parts : (name : Name) (e : Entry) → entryKey name e ≡ prefix n
 unfolding entryKey keyBytes afterType prefix suffix
 entry-key-parts name e = rw append-assoc
 
-pub length-entry-key : (name : Name) (e : Entry) → length (entryKey name e) ≡ length name + length (e .label) + 15
+pub length-entry-key : (name : Name) (e : Entry) → length (entryKey name e) ≡ length name + length (e .label) + labelKeyFixed
 unfolding entryKey
 length-entry-key name e = length-label-key name (e .label) (e .dot .actor .number) (e .dot .counter .number)
 
-pub length-prefix : (name : Name) → length (prefix name) ≡ length name + 4
+pub length-prefix : (name : Name) → length (prefix name) ≡ length name + prefixFixed
 unfolding prefix
 length-prefix name = rw length-append (omega arith)
 
-pub length-suffix : (d : Dot) → length (suffix d) ≡ 11
+pub length-suffix : (d : Dot) → length (suffix d) ≡ suffixSize
 unfolding suffix
 length-suffix d = rw length-bigEndian
 
@@ -89,9 +90,6 @@ entry-read name s e h =
 
 -- ---- their order
 
-pub dot-fits : (d : Dot) → dotOk d ≡ true → d .counter .number < 256 ^ 8
-dot-fits d ok = let high = valid d ok .counter-high in omega arith
-
 pub entry-order : (name : Name) (e f : Entry) → entryOk e ≡ true → entryOk f ≡ true → compareBytes (entryKey name e) (entryKey name f) ≡ compareEntries e f
 unfolding entryOk suffix
 entry-order name e f h k =
@@ -100,4 +98,4 @@ entry-order name e f h k =
     rw (entry-key-parts name e, entry-key-parts name f)
     (compare-common (prefix name) (e .label ++ suffix d) (f .label ++ suffix g)
     ∙ compare-ended (e .label) (f .label) (actorCounter LabelKey (d .actor .number) (d .counter .number)) (actorCounter LabelKey (g .actor .number) (g .counter .number)) (text-nonzero labelMost (e .label) (search both)) (text-nonzero labelMost (f .label) (search both))
-    ∙ ap (then (compareBytes (e .label) (f .label))) (tail-order LabelKey (d .actor .number) (g .actor .number) (d .counter .number) (g .counter .number) (dot-fits d (search both)) (dot-fits g (search both))))
+    ∙ ap (then (compareBytes (e .label) (f .label))) (tail-order LabelKey (d .actor .number) (g .actor .number) (d .counter .number) (g .counter .number) (counter-fits d (search both)) (counter-fits g (search both))))

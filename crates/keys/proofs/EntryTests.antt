@@ -18,10 +18,12 @@ use Rattle.wire.proofs.Fields.{byte-on, number-on, number-back, bytes-drop, byt
 use Rattle.dots.specs.Names.{nameOk, labelMost, textOk}
 use Rattle.dots.specs.Dots.{actorOk, maxCounter, dotOk}
 use Rattle.dots.specs.Entries.{Entry}
+use Rattle.dots.proofs.RoundTrip.{counter-fits}
 use Rattle.keys.specs.Entry.{entryOk, entryKey, prefix, suffix, keyEntry}
 use Rattle.keys.specs.Tests.{labelAfter, entryAfter, entryBy}
 use Rattle.keys.proofs.Texts.{text-nonzero, text-before, text-on, cons-back, text-back}
-use Rattle.keys.proofs.EntryKeys.{entry-key-parts, length-prefix, length-suffix, dot-fits, entry-written, entry-read}
+use Rattle.keys.proofs.EntryKeys.{entry-key-parts, length-prefix, length-suffix, entry-written, entry-read}
+use Rattle.keys.specs.Key.{suffixSize, prefixFixed}
 
 -- ---- what follows the type byte of an entry's key passes the tests, and gives the entry
 
@@ -44,27 +46,24 @@ module _ (e : Entry) (t : Bytes) (ok : entryOk e ≡ true) (is : t ≡ e .label 
       let second = byte-on t (n + 2) 0 (bigEndian 8 c) (rw two at (first .1)) in
       let three : n + 2 + 1 ≡ n + 3 = omega arith in
       let third : drop (n + 3) t ≡ bigEndian 8 c ++ [] = rw three at (second .1) ∙ sym (append-nil (bigEndian 8 c)) in
-      record { size = labelled .0; label = labelled .1; actor = first .0; ended = second .0; counter = (number-on t 8 (n + 3) c [] (dot-fits (e .dot) (search both)) third) .0 }
+      record { size = labelled .0; label = labelled .1; actor = first .0; ended = second .0; counter = (number-on t 8 (n + 3) c [] (counter-fits (e .dot) (search both)) third) .0 }
 
   pub after-tests : labelAfter t ≡ true
   unfolding labelAfter entryOk dotOk textOk
   after-tests =
       let w : EntryLaid e t = laid in
-      let whole : length t ≡ length (e .label) + 11 = rw (is, length-append, length-suffix) in
+      let whole : length t ≡ length (e .label) + suffixSize = rw (is, length-append, length-suffix) in
       let label : between 1 labelMost (length (e .label)) ≡ true = search both in
       let actor : actorOk (e .dot .actor .number) ≡ true = search both in
       let low : leb 1 (e .dot .counter .number) ≡ true = search both in
-      rw (w .actor, w .ended, w .counter, w .size, eq-eqb (length t) (length (e .label) + 11) whole, label, actor, low)
-
-  pub after-entry : entryAfter t ≡ e
-  after-entry = let w : EntryLaid e t = laid in rw (w .label, w .actor, w .counter)
+      rw (w .actor, w .ended, w .counter, w .size, eq-eqb (length t) (length (e .label) + suffixSize) whole, label, actor, low)
 
 -- ---- what passes the tests follows the type byte of its entry's key
 
 module _ (t : Bytes) (small : AreBytes t) (tests : labelAfter t ≡ true) where
-  whole : length t ≡ zeroAt t + 11
+  whole : length t ≡ zeroAt t + suffixSize
   unfolding labelAfter
-  whole = eqb-true (length t) (zeroAt t + 11) (search both)
+  whole = eqb-true (length t) (zeroAt t + suffixSize) (search both)
 
   counter-high : numberAt 8 t (zeroAt t + 3) ≤ maxCounter
   counter-high =
@@ -99,21 +98,21 @@ module _ (t : Bytes) (small : AreBytes t) (tests : labelAfter t ≡ true) where
 
 module _ (name s : Bytes) (ok : nameOk name ≡ true) (small : AreBytes s) where
   t : Bytes
-  t = drop (length name + 4) s
+  t = drop (length name + prefixFixed) s
 
   -- bytes that pass are the key of their entry
   passed : (startsWith (prefix name) s && labelAfter t) ≡ true → entryKey name (entryAfter t) ≡ s
   unfolding t
   passed h =
-      let split : prefix name ++ drop (length name + 4) s ≡ s = rw length-prefix at (starts-split (prefix name) s (search both)) in
-      rw (entry-key-parts name (entryAfter t), after-back t (bytes-drop s (length name + 4) small) (search both)) split
+      let split : prefix name ++ drop (length name + prefixFixed) s ≡ s = rw length-prefix at (starts-split (prefix name) s (search both)) in
+      rw (entry-key-parts name (entryAfter t), after-back t (bytes-drop s (length name + prefixFixed) small) (search both)) split
 
   -- the key of an entry passes
   passes : (e : Entry) → entryOk e ≡ true → entryKey name e ≡ s → (startsWith (prefix name) s && labelAfter t) ≡ true
   unfolding t
   passes e e-ok h =
       let parts : s ≡ prefix name ++ (e .label ++ suffix (e .dot)) = sym h ∙ entry-key-parts name e in
-      let after : t ≡ e .label ++ suffix (e .dot) = ap (drop (length name + 4)) parts ∙ drop-at (prefix name) (e .label ++ suffix (e .dot)) (length name + 4) (length-prefix name) in
+      let after : t ≡ e .label ++ suffix (e .dot) = ap (drop (length name + prefixFixed)) parts ∙ drop-at (prefix name) (e .label ++ suffix (e .dot)) (length name + prefixFixed) (length-prefix name) in
       let starts : startsWith (prefix name) s ≡ true = rw parts (starts-itself (prefix name) (e .label ++ suffix (e .dot))) in
       rw (starts, after-tests e t e-ok after)
 
@@ -127,5 +126,5 @@ module _ (name s : Bytes) (ok : nameOk name ≡ true) (small : AreBytes s) where
 
       by-tests : ((startsWith (prefix name) s && labelAfter t) ≡ true) ⊎ ((startsWith (prefix name) s && labelAfter t) ≡ false)
           → keyEntry name s ≡ cond (startsWith (prefix name) s && labelAfter t) (some (entryAfter t)) none
-      by-tests (inl h) = rw h (rw (passed h) at (entry-written name (entryAfter t) ok (after-ok t (bytes-drop s (length name + 4) small) (search both))))
+      by-tests (inl h) = rw h (rw (passed h) at (entry-written name (entryAfter t) ok (after-ok t (bytes-drop s (length name + prefixFixed) small) (search both))))
       by-tests (inr f) = rw f (refused f (keyEntry name s) refl)

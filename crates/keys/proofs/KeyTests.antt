@@ -15,7 +15,7 @@ use Rattle.dots.specs.Dots.{actorOk, actorOf, dotOf}
 use Rattle.dots.specs.Entries.{Entry, entry}
 use Rattle.keys.specs.declared.KeyKind.{KeyKind}
 use Rattle.keys.specs.declared.KeyKind.the-variants.{ClockKey, TombstoneKey, LabelKey, EndKey}
-use Rattle.keys.specs.Key.{Key, keyOf, typeByte, namesOk, keyCounterOk, afterType, keyBytes}
+use Rattle.keys.specs.Key.{Key, keyOf, typeByte, namesOk, keyCounterOk, afterType, keyBytes, prefixFixed}
 use Rattle.keys.specs.Read.{nameLength, fieldsAs, isKey}
 use Rattle.keys.specs.Entry.{labelKeyOf, suffix}
 use Rattle.keys.specs.Tests.{frontOk, actorAfter, endAfter, afterOk, entryAfter}
@@ -89,7 +89,7 @@ module _ (kind : KeyKind) (s : Bytes) (small : AreBytes s) where
   n : ℕ
   n = nameLength s
 
-  passes : isKey kind s ≡ true → (frontOk kind s && afterOk kind (drop (n + 4) s)) ≡ true
+  passes : isKey kind s ≡ true → (frontOk kind s && afterOk kind (drop (n + prefixFixed) s)) ≡ true
   unfolding frontOk fieldsAs keyBytes textOk n
   passes h =
       let k : Key = fieldsAs kind s in
@@ -99,27 +99,27 @@ module _ (kind : KeyKind) (s : Bytes) (small : AreBytes s) where
       let version : byteAt s 1 ≡ 0x01 = ap (λ (x : Bytes). byteAt x 1) (sym (read .1)) in
       let named : between 1 nameMost n ≡ true = sym (text-before nameMost (drop 2 s)) ∙ name-ok k (read .0) in
       let typed : eqb (byteAt s (n + 3)) (typeByte kind) ≡ true = eq-eqb (byteAt s (n + 3)) (typeByte kind) (w .type) in
-      let after : afterOk kind (drop (n + 4) s) ≡ true = rw (w .after-type) (after-passes k (read .0)) in
+      let after : afterOk kind (drop (n + prefixFixed) s) ≡ true = rw (w .after-type) (after-passes k (read .0)) in
       rw (magic, version, named, typed, after)
 
-  passed : (frontOk kind s && afterOk kind (drop (n + 4) s)) ≡ true → isKey kind s ≡ true
+  passed : (frontOk kind s && afterOk kind (drop (n + prefixFixed) s)) ≡ true → isKey kind s ≡ true
   unfolding n frontOk keyBytes
   passed h =
       let magic : byteAt s 0 ≡ 0x02 = eqb-true (byteAt s 0) 0x02 (search both) in
       let version : byteAt s 1 ≡ 0x01 = eqb-true (byteAt s 1) 0x01 (search both) in
       let typed : byteAt s (n + 3) ≡ typeByte kind = eqb-true (byteAt s (n + 3)) (typeByte kind) (search both) in
       let named : nameOk (partAt s 2 n) ≡ true = text-before nameMost (drop 2 s) ∙ search both in
-      let w = key-after kind (partAt s 2 n) (drop (n + 4) s) (bytes-drop s (n + 4) small) named (search both) in
+      let w = key-after kind (partAt s 2 n) (drop (n + prefixFixed) s) (bytes-drop s (n + prefixFixed) small) named (search both) in
       let k : Key = w .0 in
-      let long = after-long k (drop (n + 4) s) (w .4) in
-      let room : n + 4 < length s = omega (arith, length-drop (n + 4) s) in
-      let four : n + 4 ≡ n + 3 + 1 = omega arith in
-      let type = cons-back s (n + 3) (typeByte kind) (drop (n + 4) s) typed (rw four) (omega arith) in
+      let long = after-long k (drop (n + prefixFixed) s) (w .4) in
+      let room : n + prefixFixed < length s = omega (arith, length-drop (n + prefixFixed) s) in
+      let four : n + prefixFixed ≡ n + 3 + 1 = omega arith in
+      let type = cons-back s (n + 3) (typeByte kind) (drop (n + prefixFixed) s) typed (rw four) (omega arith) in
       let name = text-back s 2 (n + 3) (omega arith) (omega arith) in
       let front = cons-back s 0 0x02 (0x01 ∷ drop 2 s) magic (cons-back s 1 0x01 (drop 2 s) version refl (omega arith)) (omega arith) in
       let same : keyBytes k ≡ s = rw (w .2, w .3, w .4, type, name) front in
       subst (λ (x : Bytes). isKey kind x ≡ true) same (subst (λ (t : KeyKind). isKey t (keyBytes k) ≡ true) (w .2) (is-key-written k (w .1)))
 
-  pub key-tests : isKey kind s ≡ (frontOk kind s && afterOk kind (drop (nameLength s + 4) s))
+  pub key-tests : isKey kind s ≡ (frontOk kind s && afterOk kind (drop (nameLength s + prefixFixed) s))
   unfolding n
   key-tests = both-ways _ _ passes passed

@@ -7,7 +7,7 @@ use Rattle.wire.proofs.BigEndian.{length-bigEndian}
 use Rattle.dots.specs.Names.{Name, Label}
 use Rattle.keys.specs.declared.KeyKind.{KeyKind}
 use Rattle.keys.specs.declared.KeyKind.the-variants.{ClockKey, TombstoneKey, LabelKey, EndKey}
-use Rattle.keys.specs.Key.{Key, keyOf, afterType, keyBytes}
+use Rattle.keys.specs.Key.{Key, keyOf, afterType, keyBytes, labelKeyFixed, prefixFixed}
 use Rattle.keys.specs.Parts.{tailLength, tailBytes}
 
 pub tail-long : (t : KeyKind) → 2 ≤ tailLength t
@@ -26,13 +26,13 @@ pub length-after : (k : Key) → length (afterType k) ≡ length (k .label) + ta
 unfolding afterType
 length-after k = rw length-append (ap (λ n. length (k .label) + n) (length-tail (k .kind) (k .actor) (k .counter)))
 
-pub length-key : (k : Key) → length (keyBytes k) ≡ length (k .name) + length (k .label) + (4 + tailLength (k .kind))
+pub length-key : (k : Key) → length (keyBytes k) ≡ length (k .name) + length (k .label) + (prefixFixed + tailLength (k .kind))
 unfolding keyBytes
 length-key k = rw (length-append, length-after) (omega arith)
 
 -- "A label key is name length + label length + 15 bytes"
 module _ (name : Name) (label : Label) (actor counter : ℕ) where
-  pub length-label-key : length (keyBytes (keyOf LabelKey name label actor counter)) ≡ length name + length label + 15
+  pub length-label-key : length (keyBytes (keyOf LabelKey name label actor counter)) ≡ length name + length label + labelKeyFixed
   length-label-key = length-key (keyOf LabelKey name label actor counter)
 
   pub length-clock-key : length (keyBytes (keyOf ClockKey name label actor counter)) ≡ length name + 7

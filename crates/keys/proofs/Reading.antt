@@ -12,7 +12,7 @@ use Rattle.dots.specs.declared.Answer.the-variants.{Done}
 use Rattle.keys.specs.declared.KeyKind.{KeyKind}
 use Rattle.keys.specs.declared.KeyKind.the-variants.{ClockKey, TombstoneKey, LabelKey, EndKey}
 use Rattle.keys.specs.declared.KeyRead.{KeyRead}
-use Rattle.keys.specs.Key.{Key, typeByte, hasLabel, keyBytes}
+use Rattle.keys.specs.Key.{Key, typeByte, hasLabel, keyBytes, prefixFixed}
 use Rattle.keys.specs.Read.{nameLength, labelLength, fieldsAs, isKey, foundKey, noKey, readKey}
 use Rattle.keys.specs.Tests.{kindOf}
 use Rattle.keys.proofs.Valid.{ValidKey, label-kept}
@@ -71,7 +71,7 @@ read-written k valid = subst (λ (r : KeyRead). Says r s k) (sym (read-as s (k .
     s : Bytes
     s = keyBytes k
 
-    cut : (t : KeyKind) → partOf s (cond (hasLabel t) (span (nameLength s + 4) (labelLength s)) (span 0 0)) ≡ cond (hasLabel t) (partAt s (nameLength s + 4) (labelLength s)) []
+    cut : (t : KeyKind) → partOf s (cond (hasLabel t) (span (nameLength s + prefixFixed) (labelLength s)) (span 0 0)) ≡ cond (hasLabel t) (partAt s (nameLength s + prefixFixed) (labelLength s)) []
     cut ClockKey = refl
     cut TombstoneKey = refl
     cut LabelKey = refl

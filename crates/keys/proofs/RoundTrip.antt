@@ -14,7 +14,7 @@ use Rattle.wire.proofs.Fields.{byte-on, number-on}
 use Rattle.dots.specs.Names.{nameMost, labelMost}
 use Rattle.keys.specs.declared.KeyKind.{KeyKind}
 use Rattle.keys.specs.declared.KeyKind.the-variants.{ClockKey, TombstoneKey, LabelKey, EndKey}
-use Rattle.keys.specs.Key.{Key, typeByte, hasLabel, hasActor, afterType, keyBytes}
+use Rattle.keys.specs.Key.{Key, typeByte, hasLabel, hasActor, afterType, keyBytes, prefixFixed}
 use Rattle.keys.specs.Read.{nameLength, labelLength, fieldsAs, isKey}
 use Rattle.keys.specs.Parts.{tailLength, actorCounter}
 use Rattle.keys.specs.Tests.{kindOf}
@@ -35,9 +35,9 @@ pub record Laid (k : Key) (s : Bytes) : Type 0 where
   pub name-size : nameLength s ≡ length (k .name)
   pub name : partAt s 2 (nameLength s) ≡ k .name
   pub type : byteAt s (nameLength s + 3) ≡ typeByte (k .kind)
-  pub after-type : drop (nameLength s + 4) s ≡ afterType k
+  pub after-type : drop (nameLength s + prefixFixed) s ≡ afterType k
   pub label-size : labelLength s ≡ length (k .label)
-  pub label : partAt s (nameLength s + 4) (labelLength s) ≡ k .label
+  pub label : partAt s (nameLength s + prefixFixed) (labelLength s) ≡ k .label
   pub after-label : drop (nameLength s + labelLength s + 5) s ≡ actorCounter (k .kind) (k .actor) (k .counter)
 
 pub laid : (k : Key) → ValidKey k → Laid k (keyBytes k)
@@ -48,9 +48,9 @@ laid k valid =
     let l : ℕ = labelLength s in
     let named = text-on s 2 (n + 3) (k .name) (typeByte (k .kind) ∷ afterType k) (name-nonzero k valid) refl (omega arith) in
     let typed = byte-on s (n + 3) (typeByte (k .kind)) (afterType k) (named .2) in
-    let four : n + 3 + 1 ≡ n + 4 = omega arith in
-    let after : drop (n + 4) s ≡ afterType k = rw four at (typed .1) in
-    let labelled = text-on s (n + 4) (n + l + 5) (k .label) (actorCounter (k .kind) (k .actor) (k .counter)) (label-nonzero k valid) after (omega arith) in
+    let four : n + 3 + 1 ≡ n + prefixFixed = omega arith in
+    let after : drop (n + prefixFixed) s ≡ afterType k = rw four at (typed .1) in
+    let labelled = text-on s (n + prefixFixed) (n + l + 5) (k .label) (actorCounter (k .kind) (k .actor) (k .counter)) (label-nonzero k valid) after (omega arith) in
     record { name-size = named .0; name = named .1; type = typed .0; after-type = after; label-size = labelled .0; label = labelled .1; after-label = labelled .2 }
 
 -- actor and counter after the label
@@ -90,7 +90,7 @@ is-key-read kind s h =
     let n : ℕ = nameLength s in
     let l : ℕ = labelLength s in
     let same : isEq (compareBytes (keyBytes k) s) ≡ true = search both in
-    let valid : ValidKey k = made-valid kind (partAt s 2 n) (partAt s (n + 4) l) (byteAt s (n + l + 5)) (numberAt 8 s (n + l + 7)) (search both) (search both) in
+    let valid : ValidKey k = made-valid kind (partAt s 2 n) (partAt s (n + prefixFixed) l) (byteAt s (n + l + 5)) (numberAt 8 s (n + l + 7)) (search both) (search both) in
     (valid, bytesLawful .tie (keyBytes k) s (tie-is (compareBytes (keyBytes k) s) (pass same)))
 
 module _ (kind : KeyKind) (s : Bytes) (key : isKey kind s ≡ true) where
@@ -98,12 +98,12 @@ module _ (kind : KeyKind) (s : Bytes) (key : isKey kind s ≡ true) where
   laid-read = let read = is-key-read kind s key in subst (Laid (fieldsAs kind s)) (read .1) (laid (fieldsAs kind s) (read .0))
 
   -- how long bytes are that are a key
-  pub key-size : length s ≡ nameLength s + labelLength s + (4 + tailLength kind)
+  pub key-size : length s ≡ nameLength s + labelLength s + (prefixFixed + tailLength kind)
   unfolding fieldsAs
   key-size =
       let k : Key = fieldsAs kind s in
       let w : Laid k s = laid-read in
-      let size : length s ≡ length (k .name) + length (k .label) + (4 + tailLength kind) = ap length (sym ((is-key-read kind s key) .1)) ∙ length-key k in
+      let size : length s ≡ length (k .name) + length (k .label) + (prefixFixed + tailLength kind) = ap length (sym ((is-key-read kind s key) .1)) ∙ length-key k in
       omega arith
 
   pub key-short : (nameLength s ≤ nameMost) × (labelLength s ≤ labelMost)

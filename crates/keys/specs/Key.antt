@@ -1,5 +1,5 @@
 -- "magic byte, version byte, set name, 00, type byte, label, 00, actor, 00, counter in 8 bytes, highest first"
-use Prim.Native.Nat.{ℕ, compare, Ordering}
+use Prim.Native.Nat.{ℕ, _+_, compare, Ordering}
 use mathlib.Core.Bool.{Bool, true, false, cond, _&&_}
 use mathlib.Core.List.{[], _∷_, _++_}
 use Rattle.wire.specs.Lists.{then}
@@ -63,6 +63,18 @@ afterType k =
 -- magic byte 02 and version byte 01
 unfoldable pub keyBytes : Key → Bytes
 keyBytes k = 0x02 ∷ 0x01 ∷ (k .name ++ (0 ∷ typeByte (k .kind) ∷ afterType k))
+
+-- bytes of a label key before its label, beside the name: magic byte, version byte, 00, type byte
+abbrev pub prefixFixed : ℕ
+prefixFixed = 4
+
+-- and after its label: 00, actor, 00, counter
+abbrev pub suffixSize : ℕ
+suffixSize = 11
+
+-- "A label key is name length + label length + 15 bytes."
+abbrev pub labelKeyFixed : ℕ
+labelKeyFixed = prefixFixed + suffixSize
 
 -- "the order of set name, type, label, actor, counter"
 abbrev pub compareKeys : Key → Key → Ordering

@@ -6,7 +6,7 @@ use Rattle.wire.specs.Bytes.{Bytes, bigEndian}
 use Rattle.dots.specs.Names.{Name}
 use Rattle.keys.specs.declared.KeyKind.{KeyKind}
 use Rattle.keys.specs.declared.KeyKind.the-variants.{ClockKey, TombstoneKey, LabelKey, EndKey}
-use Rattle.keys.specs.Key.{hasLabel, hasActor}
+use Rattle.keys.specs.Key.{hasLabel, hasActor, suffixSize}
 
 -- magic byte, version byte, name, 00, type byte
 abbrev pub frontBytes : Name → ℕ → Bytes
@@ -24,5 +24,5 @@ tailBytes kind actor counter = 0 ∷ actorCounter kind actor counter
 abbrev pub tailLength : KeyKind → ℕ
 tailLength ClockKey = 3
 tailLength TombstoneKey = 3
-tailLength LabelKey = 11
+tailLength LabelKey = suffixSize
 tailLength EndKey = 2

@@ -10,7 +10,7 @@ use Rattle.dots.specs.Dots.{actorOf, dotOf, actorOk}
 use Rattle.dots.specs.Entries.{Entry, entry}
 use Rattle.keys.specs.declared.KeyKind.{KeyKind}
 use Rattle.keys.specs.declared.KeyKind.the-variants.{ClockKey, TombstoneKey, LabelKey, EndKey}
-use Rattle.keys.specs.Key.{typeByte}
+use Rattle.keys.specs.Key.{typeByte, suffixSize, prefixFixed}
 use Rattle.keys.specs.Read.{nameLength}
 use Rattle.keys.specs.Entry.{prefix}
 
@@ -26,7 +26,7 @@ frontOk kind s = let n = nameLength s in eqb (byteAt s 0) 0x02 && eqb (byteAt s 
 unfoldable pub labelAfter : Bytes → Bool
 labelAfter t =
     let n = zeroAt t in
-    eqb (length t) (n + 11) && (between 1 labelMost n && actorOk (byteAt t (n + 1)) && eqb (byteAt t (n + 2)) 0 && leb 1 (numberAt 8 t (n + 3)))
+    eqb (length t) (n + suffixSize) && (between 1 labelMost n && actorOk (byteAt t (n + 1)) && eqb (byteAt t (n + 2)) 0 && leb 1 (numberAt 8 t (n + 3)))
 
 -- of a clock or tombstone key: 00, actor, 00
 unfoldable pub actorAfter : Bytes → Bool
@@ -48,4 +48,4 @@ entryAfter t = let n = zeroAt t in entry (take n t) (dotOf (actorOf (byteAt t (n
 
 -- the entry that bytes are the key of in a set, by its tests
 unfoldable pub entryBy : Name → Bytes → Option Entry
-entryBy name s = let t = drop (length name + 4) s in cond (startsWith (prefix name) s && labelAfter t) (some (entryAfter t)) none
+entryBy name s = let t = drop (length name + prefixFixed) s in cond (startsWith (prefix name) s && labelAfter t) (some (entryAfter t)) none

@@ -6,11 +6,18 @@ ghost use Prim.Native.Nat.{_+_, _≤_};
 ghost use lib.ListN.{length, drop};
 ghost use Rattle.wire.specs.Bytes.{byteAt, numberAt, span, putAt};
 ghost use Rattle.keys.specs.declared.KeyKind.the-variants.{ClockKey, LabelKey, EndKey};
-ghost use Rattle.keys.specs.Key.{keyOf, typeByte, hasLabel, hasActor, namesOk, keyCounterOk, keyBytes};
+ghost use Rattle.keys.specs.Key.{keyOf, typeByte, hasLabel, hasActor, namesOk, keyCounterOk, keyBytes, suffixSize, prefixFixed};
 ghost use Rattle.keys.specs.Read.{nameLength, isKey, foundKey, noKey, readKey};
 ghost use Rattle.keys.specs.Write.{WroteKey, writeAnswer};
 ghost use Rattle.keys.specs.Parts.{tailLength, frontBytes, tailBytes};
 ghost use Rattle.keys.specs.Tests.{kindOf, frontOk, labelAfter, actorAfter, endAfter, afterOk};
+
+// Bytes of a label key before its label beside the name, after its label, and in all beside name and label.
+pub const PREFIX_FIXED: usize = 4;
+
+pub const SUFFIX_SIZE: usize = 11;
+
+pub const LABEL_KEY_FIXED: usize = PREFIX_FIXED + SUFFIX_SIZE;
 
 // The type of a key: clock, tombstone, label or end.
 pub enum KeyKind {
@@ -96,7 +103,7 @@ fn names_ok(kind: KeyKind, name: &[u8], label: &[u8], actor: u8) -> bool
 {
     let name_fits = dots::name_ok(name);
     let label_fits = !has_label(kind) | dots::label_ok(label);
-    let actor_fits = !has_actor(kind) | ((1 <= actor) & (actor <= 16));
+    let actor_fits = !has_actor(kind) | ((1 <= actor) & (actor <= dots::ACTOR_MOST));
     name_fits & (label_fits & actor_fits)
 }
 
@@ -109,12 +116,12 @@ fn counter_ok(kind: KeyKind, counter: u64) -> bool
 
 // The number of bytes after the label.
 fn tail_length(kind: KeyKind) -> usize
-    ensures { λ r. ⌜ (r ≡ tailLength kind) × (r ≤ 11) ⌝ }
+    ensures { λ r. ⌜ (r ≡ tailLength kind) × (r ≤ suffixSize) ⌝ }
 {
     match kind {
         KeyKind::ClockKey => 3,
         KeyKind::TombstoneKey => 3,
-        KeyKind::LabelKey => 11,
+        KeyKind::LabelKey => SUFFIX_SIZE,
         KeyKind::EndKey => 2,
     }
 }
@@ -144,7 +151,7 @@ fn write_answer(
         return dots::Answer::BadName;
     }
     let label_part = kept(has_label(kind), label);
-    let size = name.len() + label_part.len() + (4 + tail_length(kind));
+    let size = name.len() + label_part.len() + (PREFIX_FIXED + tail_length(kind));
     dots::first(
         !counter_ok(kind, counter),
         dots::Answer::BadDot,
@@ -154,8 +161,8 @@ fn write_answer(
 
 // Puts magic byte, version byte, name, 00 and type byte at the front of out.
 fn put_front(out: &mut [u8], name: &[u8], byte: u8) -> usize
-    requires { ⌜ length (now name) + 4 ≤ length (now out) ⌝ }
-    ensures { λ r. ⌜ (r ≡ length (now (name .entry)) + 4) × (now (out .exit) ≡ putAt (now (out .entry)) 0 (frontBytes (now (name .entry)) byte)) ⌝ }
+    requires { ⌜ length (now name) + prefixFixed ≤ length (now out) ⌝ }
+    ensures { λ r. ⌜ (r ≡ length (now (name .entry)) + prefixFixed) × (now (out .exit) ≡ putAt (now (out .entry)) 0 (frontBytes (now (name .entry)) byte)) ⌝ }
 {
     let head = [2u8, 1u8];
     let next = moves::put(out, 0, &head);
@@ -166,8 +173,8 @@ fn put_front(out: &mut [u8], name: &[u8], byte: u8) -> usize
 
 // Puts 00, actor, 00 and counter into out at a place.
 fn put_dot(out: &mut [u8], at: usize, actor: u8, counter: u64) -> usize
-    requires { ⌜ at + 11 ≤ length (now out) ⌝ }
-    ensures { λ r. ⌜ (r ≡ at + 11) × (now (out .exit) ≡ putAt (now (out .entry)) at (tailBytes LabelKey actor counter)) ⌝ }
+    requires { ⌜ at + suffixSize ≤ length (now out) ⌝ }
+    ensures { λ r. ⌜ (r ≡ at + suffixSize) × (now (out .exit) ≡ putAt (now (out .entry)) at (tailBytes LabelKey actor counter)) ⌝ }
 {
     let front = [0u8, actor, 0u8];
     let number = wire::number_bytes(counter);
@@ -277,7 +284,7 @@ fn front_ok(s: &[u8], kind: KeyKind, n: usize) -> bool
     let magic = wire::byte_at(s, 0);
     let version = wire::byte_at(s, 1);
     let byte = wire::byte_at(s, n + 3);
-    (magic == 2) & (version == 1) & ((1 <= n) & (n <= 16)) & (byte == type_byte(kind))
+    (magic == 2) & (version == 1) & ((1 <= n) & (n <= dots::NAME_MOST)) & (byte == type_byte(kind))
 }
 
 // Whether t is label, 00, actor, 00 and counter.
@@ -285,13 +292,16 @@ fn label_after(t: &[u8]) -> bool
     ensures { λ r. ⌜ r ≡ labelAfter (now (t .entry)) ⌝ }
 {
     let n = search::zero_at(t);
-    if t.len() - n != 11 {
+    if t.len() - n != SUFFIX_SIZE {
         return false;
     }
     let actor = wire::byte_at(t, n + 1);
     let zero = wire::byte_at(t, n + 2);
     let counter = wire::number_at(t, n + 3);
-    ((1 <= n) & (n <= 32)) & ((1 <= actor) & (actor <= 16)) & (zero == 0) & (1 <= counter)
+    ((1 <= n) & (n <= dots::LABEL_MOST))
+        & ((1 <= actor) & (actor <= dots::ACTOR_MOST))
+        & (zero == 0)
+        & (1 <= counter)
 }
 
 // Whether t is 00, actor and 00.
@@ -301,7 +311,7 @@ fn actor_after(t: &[u8]) -> bool
     let first = wire::byte_at(t, 0);
     let actor = wire::byte_at(t, 1);
     let last = wire::byte_at(t, 2);
-    (t.len() == 3) & (first == 0) & ((1 <= actor) & (actor <= 16)) & (last == 0)
+    (t.len() == 3) & (first == 0) & ((1 <= actor) & (actor <= dots::ACTOR_MOST)) & (last == 0)
 }
 
 // Whether t is 00 and 00.
@@ -331,7 +341,7 @@ fn is_key(s: &[u8], kind: KeyKind, n: usize) -> bool
     ensures { λ r. ⌜ r ≡ isKey kind (now (s .entry)) ⌝ }
 {
     let front = front_ok(s, kind, n);
-    let after = after_ok(kind, rest(s, n + 4));
+    let after = after_ok(kind, rest(s, n + PREFIX_FIXED));
     front & after
 }
 
@@ -371,9 +381,9 @@ fn found_key(s: &[u8], kind: KeyKind, n: usize) -> KeyRead
     requires { ⌜ (isKey kind (now s) ≡ true) × (n ≡ nameLength (now s)) × (n ≤ length (now s)) ⌝ }
     ensures { λ r. ⌜ r ≡ foundKey kind (now (s .entry)) ⌝ }
 {
-    let l = search::zero_at(rest(s, n + 4));
+    let l = search::zero_at(rest(s, n + PREFIX_FIXED));
     let labelled = has_label(kind);
-    let label = label_span(labelled, n + 4, l);
+    let label = label_span(labelled, n + PREFIX_FIXED, l);
     let actor = actor_at(s, has_actor(kind), n + l + 5);
     let counter = counter_at(s, labelled, n + l + 7);
     let byte = type_byte(kind);

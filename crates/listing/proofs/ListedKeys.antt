@@ -3,7 +3,7 @@ use mathlib.Core.Path.{_≡_, refl, sym, ap, _∙_}
 use mathlib.Core.Logic.{_⊎_, inl, inr}
 use mathlib.Core.Bool.{Bool, true, false, not, cond, _&&_}
 use mathlib.Core.List.{List, [], _∷_}
-use Prim.Native.Nat.{ℕ, zero, suc, _+_, _-_, _*_, _≤_, _<_}
+use Prim.Native.Nat.{ℕ, zero, suc, _+_, _-_, _*_, _^_, _≤_, _<_}
 use native.Mathlib.Omega.{arith}
 use lib.Dec.{leb, ltb}
 use lib.ListN.{length, take, drop, length-take, drop-of-length-le}
@@ -20,57 +20,59 @@ use Rattle.dots.specs.Entries.{Entry, entry}
 use Rattle.listing.specs.declared.OpenLine.{OpenLine}
 use Rattle.listing.specs.declared.ListedKey.{ListedKey}
 use Rattle.store.specs.Cut.{keyLength, keysAfter, keyLabel, keyDot, entriesIn}
-use Rattle.store.specs.Valid.{keysFit}
+use Rattle.store.specs.Valid.{keysFit, storeMost}
 use Rattle.listing.specs.Listing.{liveEntries, linesOfLive, listingBytes}
 use Rattle.listing.specs.Writing.{KeyAt, lineLabel, noLine, longerLine, newLine, isOpen, nextLine, dotWritten}
 use Rattle.store.proofs.Walk.{first-key, key-size, end-within}
 use Rattle.listing.proofs.OpenLines.{Listed, listed-start, listed-room, listed-end, listed-line, next-label, entry-listed}
+use Rattle.dots.specs.Wire.{dotSize}
+use Rattle.keys.specs.Key.{labelKeyFixed, suffixSize, prefixFixed}
 
 -- ---- the key at a place
 
 module _ (n : ℕ) (keys : Bytes) (at len : ℕ) (more : at < length keys) (fit : keysFit n (drop at keys) ≡ true)
     (read : len ≡ keyLength n (take (length keys - at) (drop at keys))) where
-  fits : (between (n + 16) (n + 15 + labelMost) len && keysFit n (drop (at + len) keys)) ≡ true
+  fits : (between (n + (labelKeyFixed + 1)) (n + labelKeyFixed + labelMost) len && keysFit n (drop (at + len) keys)) ≡ true
   unfolding keysFit all
   fits = rw (first-key n keys at len more read, key-size n keys at len more read) at fit
 
-  sized : between (n + 16) (n + 15 + labelMost) len ≡ true
-  sized = both-left (between (n + 16) (n + 15 + labelMost) len) (keysFit n (drop (at + len) keys)) fits
+  sized : between (n + (labelKeyFixed + 1)) (n + labelKeyFixed + labelMost) len ≡ true
+  sized = both-left (between (n + (labelKeyFixed + 1)) (n + labelKeyFixed + labelMost) len) (keysFit n (drop (at + len) keys)) fits
 
-  pub key-low : n + 16 ≤ len
-  key-low = leb-true (n + 16) len (both-left (leb (n + 16) len) (leb len (n + 15 + labelMost)) sized)
+  pub key-low : n + (labelKeyFixed + 1) ≤ len
+  key-low = leb-true (n + (labelKeyFixed + 1)) len (both-left (leb (n + (labelKeyFixed + 1)) len) (leb len (n + labelKeyFixed + labelMost)) sized)
 
-  key-high : len ≤ n + 15 + labelMost
-  key-high = leb-true len (n + 15 + labelMost) (both-right (leb (n + 16) len) (leb len (n + 15 + labelMost)) sized)
+  key-high : len ≤ n + labelKeyFixed + labelMost
+  key-high = leb-true len (n + labelKeyFixed + labelMost) (both-right (leb (n + (labelKeyFixed + 1)) len) (leb len (n + labelKeyFixed + labelMost)) sized)
 
-  pub dot-room : 10 ≤ length (take (at + len - at) (drop at keys))
+  pub dot-room : (suffixSize - 1) ≤ length (take (at + len - at) (drop at keys))
   dot-room = rw (size-part, key-size n keys at len more read) (omega (arith, key-low))
 
-  pub past-label : 11 ≤ at + len
+  pub past-label : suffixSize ≤ at + len
   past-label = omega (arith, key-low)
 
-  label-part : keyLabel n (take len (drop at keys)) ≡ partAt keys (at + n + 4) (at + len - 11 - (at + n + 4))
+  label-part : keyLabel n (take len (drop at keys)) ≡ partAt keys (at + n + prefixFixed) (at + len - suffixSize - (at + n + prefixFixed))
   unfolding keyLabel
   label-part =
-      let size : len - (n + 15) ≡ at + len - 11 - (at + n + 4) = omega (arith, key-low) in
-      let place : at + (n + 4) ≡ at + n + 4 = omega arith in
-      rw (key-size n keys at len more read, drop-take (n + 4) len (drop at keys), take-take (len - (n + 15)) (len - (n + 4)) (drop (n + 4) (drop at keys)) (omega arith), drop-drop (n + 4) at keys, place, size)
+      let size : len - (n + labelKeyFixed) ≡ at + len - suffixSize - (at + n + prefixFixed) = omega (arith, key-low) in
+      let place : at + (n + prefixFixed) ≡ at + n + prefixFixed = omega arith in
+      rw (key-size n keys at len more read, drop-take (n + prefixFixed) len (drop at keys), take-take (len - (n + labelKeyFixed)) (len - (n + prefixFixed)) (drop (n + prefixFixed) (drop at keys)) (omega arith), drop-drop (n + prefixFixed) at keys, place, size)
 
-  entries-next : entriesIn n (drop at keys) ≡ entry (partAt keys (at + n + 4) (at + len - 11 - (at + n + 4))) (keyDot (take len (drop at keys))) ∷ entriesIn n (drop (at + len) keys)
+  entries-next : entriesIn n (drop at keys) ≡ entry (partAt keys (at + n + prefixFixed) (at + len - suffixSize - (at + n + prefixFixed))) (keyDot (take len (drop at keys))) ∷ entriesIn n (drop (at + len) keys)
   unfolding entriesIn
   entries-next = rw (first-key n keys at len more read, label-part)
 
   -- the key as it was read
   pub key-at : (tombstone : List Dot) (dot : Dot) (dead : Bool) → dot ≡ keyDot (take (at + len - at) (drop at keys)) → dead ≡ member compareDots dot tombstone
-      → KeyAt n keys tombstone at (record { from = at + n + 4; to = at + len - 11; end = at + len; dot = dot; live = not dead })
+      → KeyAt n keys tombstone at (record { from = at + n + prefixFixed; to = at + len - suffixSize; end = at + len; dot = dot; live = not dead })
   key-at tombstone dot dead said tested =
       let high = key-high in
       record {
         says = rw (said, size-part) entries-next;
         live-is = ap not tested;
-        rest-fits = both-right (between (n + 16) (n + 15 + labelMost) len) (keysFit n (drop (at + len) keys)) fits;
         from-is = refl;
         to-is = omega (arith, key-low);
+        rest-fits = both-right (between (n + (labelKeyFixed + 1)) (n + labelKeyFixed + labelMost) len) (keysFit n (drop (at + len) keys)) fits;
         low = omega (arith, key-low);
         high = omega arith;
         within = end-within n keys at len more read;
@@ -142,9 +144,9 @@ walk-short n keys tombstone at l bytes s h =
 -- one key more
 module _ (n : ℕ) (keys : Bytes) (tombstone : List Dot) (at : ℕ) (l : OpenLine) (bytes : Bytes) (s : Walked n keys tombstone at l bytes) (k : ListedKey) (key : KeyAt n keys tombstone at k) where
   -- the line and the label are such as `next_line` takes
-  pub line-fits : length keys ≤ 65536
-      → (length keys ≤ 65536) × (l .from ≤ l .to) × (l .to ≤ length keys) × (k .from ≤ k .to) × (k .to ≤ length keys)
-      × (l .count ≤ 65536) × (l .bytes ≤ 65536) × (l .labels ≤ 65536)
+  pub line-fits : length keys ≤ storeMost
+      → (length keys ≤ storeMost) × (l .from ≤ l .to) × (l .to ≤ length keys) × (k .from ≤ k .to) × (k .to ≤ length keys)
+      × (l .count ≤ storeMost) × (l .bytes ≤ storeMost) × (l .labels ≤ storeMost)
   line-fits most = let b = s .bounded in (most, b .ordered, b .within, omega arith, omega arith, omega arith, omega arith, omega arith)
 
   pub walk-dead : k .live ≡ false → Walked n keys tombstone (k .end) l bytes
@@ -184,14 +186,14 @@ module _ (n : ℕ) (keys : Bytes) (tombstone : List Dot) (at : ℕ) (l : OpenLin
         })
 
     -- what is written has room
-    pub dot-fits : length keys ≤ 65536 → (size : ℕ) → length (listingBytes (linesOfLive tombstone (entriesIn n keys))) ≤ size
-        → (length (partAt keys (k .from) (k .to - k .from)) < 256) × (1 ≤ r .count) × (r .count < 65536)
-        × (length (partAt keys (k .from) (k .to - k .from)) + 3 + 9 * r .count ≤ r .bytes) × (r .bytes ≤ size)
+    pub dot-fits : length keys ≤ storeMost → (size : ℕ) → length (listingBytes (linesOfLive tombstone (entriesIn n keys))) ≤ size
+        → (length (partAt keys (k .from) (k .to - k .from)) < 256) × (1 ≤ r .count) × (r .count < 256 ^ 2)
+        × (length (partAt keys (k .from) (k .to - k .from)) + 3 + dotSize * r .count ≤ r .bytes) × (r .bytes ≤ size)
     dot-fits most size room =
         let whole = linesOfLive tombstone (entriesIn n keys) in
         let rest = liveEntries tombstone (entriesIn n (drop (k .end) keys)) in
         let after = walk-live .walked in
-        let label : length (partAt keys (k .from) (k .to - k .from)) ≤ 32 = rw length-take (omega arith) in
+        let label : length (partAt keys (k .from) (k .to - k .from)) ≤ labelMost = rw length-take (omega arith) in
         let is : (lineLabel keys r ≡ partAt keys (k .from) (k .to - k .from)) × (0 < r .count) = rw next (next-label keys l (k .from) (k .to)) in
         let taken = rw (is .0) at (listed-line whole keys r (walk-live .after) rest (after .listed) (is .1)) in
         let few = after .bounded .few-dots in
@@ -221,7 +223,7 @@ module _ (n : ℕ) (keys : Bytes) (tombstone : List Dot) where
           dot = keyDot (take (at + key-len - at) (drop at keys))
 
           k : ListedKey
-          k = record { from = at + n + 4; to = at + key-len - 11; end = at + key-len; dot = dot; live = not (member compareDots dot tombstone) }
+          k = record { from = at + n + prefixFixed; to = at + key-len - suffixSize; end = at + key-len; dot = dot; live = not (member compareDots dot tombstone) }
 
           key : KeyAt n keys tombstone at k
           key = key-at n keys at key-len (ltb-true at (length keys) t) (s .fit) refl tombstone dot (member compareDots dot tombstone) refl refl

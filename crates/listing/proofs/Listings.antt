@@ -1,24 +1,24 @@
 -- Lines from left to right: what one entry more makes of the last line, and how many bytes lines take. Assumes nothing.
 use mathlib.Core.Path.{_≡_, refl, sym, ap, _∙_}
-use mathlib.Core.Logic.{_↔_, _⊎_, inl, inr}
+use mathlib.Core.Logic.{_⊎_, inl, inr}
 use mathlib.Core.Bool.{Bool, true, false}
 use mathlib.Core.List.{List, [], _∷_, _++_, map, append-assoc, append-nil}
 use Prim.Native.Nat.{_+_, _*_, _≤_}
 use native.Mathlib.Omega.{arith}
-use lib.Dec.{T, isEq}
+use lib.Dec.{isEq}
 use lib.ListN.{length, length-append}
-use Rattle.wire.specs.Lists.{_∈_, any}
 use Rattle.wire.specs.Bytes.{compareBytes}
-use Rattle.wire.proofs.Tests.{decided, pass, holds}
-use Rattle.wire.proofs.Lists.{tie-is, any-member, any-found}
+use Rattle.wire.proofs.Tests.{decided, pass}
+use Rattle.wire.proofs.Lists.{tie-is}
 use Rattle.wire.proofs.Orders.{bytesLawful}
 use Rattle.wire.proofs.BigEndian.{length-bigEndian}
 use Rattle.dots.specs.declared.Dot.{Dot}
 use Rattle.dots.specs.Names.{Label}
-use Rattle.dots.specs.Entries.{Entry, entry, Line, line, prependTo, prepend, linesOf, lineLabels}
+use Rattle.dots.specs.Entries.{Entry, entry, Line, line, prependTo, prepend, linesOf}
 use Rattle.dots.proofs.RoundTrip.{length-dots}
-use Rattle.dots.proofs.Lines.{label-of-line, line-of-label, lines-of-label}
+use Rattle.dots.proofs.Lines.{lines-of-label}
 use Rattle.listing.specs.Listing.{lineBytes, listingBytes}
+use Rattle.dots.specs.Wire.{dotSize}
 
 pub same-label : (l m : Label) → isEq (compareBytes l m) ≡ true → l ≡ m
 same-label l m t = bytesLawful .tie l m (tie-is (compareBytes l m) (pass t))
@@ -52,7 +52,7 @@ lines-apart l d (c ∷ ds) e es f = rw (lines-apart l c ds e es f, ap isEq (byte
 
 -- ---- bytes
 
-pub length-line : (l : Label) (ds : List Dot) → length (lineBytes (line l ds)) ≡ length l + 3 + 9 * length ds
+pub length-line : (l : Label) (ds : List Dot) → length (lineBytes (line l ds)) ≡ length l + 3 + dotSize * length ds
 length-line l ds = rw (length-append, length-append, length-bigEndian, length-dots) (omega arith)
 
 pub listing-append : (ls ks : List Line) → listingBytes (ls ++ ks) ≡ listingBytes ls ++ listingBytes ks
@@ -78,7 +78,7 @@ pub listing-longer : (es : List Entry) (l : Label) (ds : List Dot) → length (l
 listing-longer [] l ds = rw append-nil (omega arith)
 listing-longer (e ∷ es) l ds = go ds (λ (cs : List Dot). listing-longer es l cs)
   where
-    size : (c : Dot) (cs : List Dot) → length (listingBytes (linesOf (map (entry l) (c ∷ cs)))) ≡ length l + 3 + 9 * length (c ∷ cs)
+    size : (c : Dot) (cs : List Dot) → length (listingBytes (linesOf (map (entry l) (c ∷ cs)))) ≡ length l + 3 + dotSize * length (c ∷ cs)
     size c cs = ap length (label-bytes l c cs) ∙ length-line l (c ∷ cs)
 
     go : (cs : List Dot) → ((bs : List Dot) → length (listingBytes (linesOf (map (entry l) bs))) ≤ length (listingBytes (linesOf (map (entry l) bs ++ es))))
@@ -96,17 +96,3 @@ listing-longer (e ∷ es) l ds = go ds (λ (cs : List Dot). listing-longer es l 
         step (inr f) = rw (lines-apart l c cs e es f) (omega (arith, size c cs, length-line l (c ∷ cs), length-listing (line l (c ∷ cs)) (linesOf (e ∷ es))))
 
 -- ---- labels
-
--- a label has a line exactly if some entry has it
-pub listed-label : (l : Label) (es : List Entry) → T (any (λ (e : Entry). isEq (compareBytes l (e .label))) es) ↔ (l ∈ lineLabels (linesOf es))
-listed-label l es = (to, from)
-  where
-    to : T (any (λ (e : Entry). isEq (compareBytes l (e .label))) es) → l ∈ lineLabels (linesOf es)
-    to t =
-        let w = any-found (λ (e : Entry). isEq (compareBytes l (e .label))) es t in
-        rw (same-label l (w .0 .label) (holds (isEq (compareBytes l (w .0 .label))) (w .2))) (line-of-label es (w .0) (w .1))
-
-    from : l ∈ lineLabels (linesOf es) → T (any (λ (e : Entry). isEq (compareBytes l (e .label))) es)
-    from m =
-        let w = label-of-line l es m in
-        any-member (λ (e : Entry). isEq (compareBytes l (e .label))) es (w .1) (pass (ap isEq (ap (compareBytes l) (sym (w .2)) ∙ bytesLawful .self l)))

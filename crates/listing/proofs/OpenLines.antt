@@ -15,11 +15,11 @@ use Rattle.wire.proofs.BigEndian.{length-bigEndian}
 use Rattle.wire.proofs.Fields.{part-length, put-next, put-front}
 use Rattle.dots.specs.declared.Dot.{Dot}
 use Rattle.dots.specs.Names.{Label}
-use Rattle.dots.specs.Wire.{dotBytes, dotsBytes}
+use Rattle.dots.specs.Wire.{dotBytes, dotsBytes, dotSize}
 use Rattle.dots.specs.Entries.{Entry, entry, Line, line, linesOf}
 use Rattle.dots.proofs.RoundTrip.{length-dots, dots-append}
 use Rattle.listing.specs.declared.OpenLine.{OpenLine}
-use Rattle.listing.specs.Listing.{lineBytes, listingBytes}
+use Rattle.listing.specs.Listing.{lineBytes, listingBytes, newLineFixed}
 use Rattle.listing.specs.Writing.{lineLabel, noLine, longerLine, newLine, isOpen, nextLine, labelWritten, dotWritten}
 use Rattle.dots.proofs.Lines.{lines-of-label}
 use Rattle.listing.proofs.Listings.{same-label, line-grows, lines-apart, length-line, listing-append, listing-longer}
@@ -39,32 +39,32 @@ put-over o out a x y b at e n m =
     ∙ sym (put-front o (a ++ (y ++ b)) ∙ rw (size, append-assoc, append-assoc))
 
 -- the first dot of a line
-pub written-first : (o out bytes label : Bytes) (d : Dot) (end : ℕ) → out ≡ putAt o 0 bytes → end ≡ length bytes + length label + 12 → end ≤ length o
+pub written-first : (o out bytes label : Bytes) (d : Dot) (end : ℕ) → out ≡ putAt o 0 bytes → end ≡ length bytes + length label + newLineFixed → end ≤ length o
     → dotWritten out end 1 label d ≡ putAt o 0 (bytes ++ lineBytes (line label (d ∷ [])))
 unfolding dotWritten labelWritten dotsBytes
 written-first o out bytes label d end e n fits =
     let head : Bytes = length label ∷ label in
     let headed : length (bytes ++ head) ≡ length bytes + length label + 1 = rw length-append (omega arith) in
     let numbered : length ((bytes ++ head) ++ bigEndian 2 1) ≡ length bytes + length label + 3 = rw (length-append, length-bigEndian) (omega arith) in
-    let first = put-next o out (putAt out (end - 12 - length label) head) bytes head 0 (end - 12 - length label) e (omega arith) refl (omega arith) in
-    let second = put-next o _ (putAt (putAt out (end - 12 - length label) head) (end - 9 - 2) (bigEndian 2 1)) (bytes ++ head) (bigEndian 2 1) 0 (end - 9 - 2) first (omega arith) refl (omega arith) in
-    let third = put-next o _ _ ((bytes ++ head) ++ bigEndian 2 1) (dotBytes d) 0 (end - 9) second (omega arith) refl (omega arith) in
+    let first = put-next o out (putAt out (end - newLineFixed - length label) head) bytes head 0 (end - newLineFixed - length label) e (omega arith) refl (omega arith) in
+    let second = put-next o _ (putAt (putAt out (end - newLineFixed - length label) head) (end - dotSize - 2) (bigEndian 2 1)) (bytes ++ head) (bigEndian 2 1) 0 (end - dotSize - 2) first (omega arith) refl (omega arith) in
+    let third = put-next o _ _ ((bytes ++ head) ++ bigEndian 2 1) (dotBytes d) 0 (end - dotSize) second (omega arith) refl (omega arith) in
     third ∙ ap (putAt o 0) (rw (append-assoc, append-assoc, append-nil))
 
 -- a dot more
 pub written-more : (o out bytes label other : Bytes) (ds : List Dot) (d : Dot) (end count : ℕ) → out ≡ putAt o 0 (bytes ++ lineBytes (line label ds)) → count ≡ length ds → 0 < count
-    → end ≡ length (bytes ++ lineBytes (line label ds)) + 9 → end ≤ length o → dotWritten out end (count + 1) other d ≡ putAt o 0 (bytes ++ lineBytes (line label (ds ++ (d ∷ []))))
+    → end ≡ length (bytes ++ lineBytes (line label ds)) + dotSize → end ≤ length o → dotWritten out end (count + 1) other d ≡ putAt o 0 (bytes ++ lineBytes (line label (ds ++ (d ∷ []))))
 unfolding dotWritten labelWritten dotsBytes
 written-more o out bytes label other ds d end count e n pos m fits =
     let front : Bytes = bytes ++ (length label ∷ label) in
     let start : length front ≡ length bytes + length label + 1 = rw length-append (omega arith) in
-    let size : length (bytes ++ lineBytes (line label ds)) ≡ length front + 2 + 9 * count = rw (length-append, length-line) (omega arith) in
+    let size : length (bytes ++ lineBytes (line label ds)) ≡ length front + 2 + dotSize * count = rw (length-append, length-line) (omega arith) in
     let more : length (ds ++ (d ∷ [])) ≡ count + 1 = rw length-append (omega arith) in
-    let counted : Bytes = putAt out (end - 9 * (count + 1) - 2) (bigEndian 2 (count + 1)) in
+    let counted : Bytes = putAt out (end - dotSize * (count + 1) - 2) (bigEndian 2 (count + 1)) in
     let first : counted ≡ putAt o 0 (front ++ (bigEndian 2 (count + 1) ++ dotsBytes ds)) =
-    put-over o out front (bigEndian 2 (length ds)) (bigEndian 2 (count + 1)) (dotsBytes ds) (end - 9 * (count + 1) - 2) (e ∙ ap (putAt o 0) (rw append-assoc)) (rw (length-bigEndian, length-bigEndian)) (omega arith) in
-    let next : length (front ++ (bigEndian 2 (count + 1) ++ dotsBytes ds)) ≡ end - 9 = simp (length-append, length-bigEndian, length-dots) (omega arith) in
-    let second = put-next o counted (putAt counted (end - 9) (dotBytes d)) (front ++ (bigEndian 2 (count + 1) ++ dotsBytes ds)) (dotBytes d) 0 (end - 9) first (omega arith) refl (omega arith) in
+    put-over o out front (bigEndian 2 (length ds)) (bigEndian 2 (count + 1)) (dotsBytes ds) (end - dotSize * (count + 1) - 2) (e ∙ ap (putAt o 0) (rw append-assoc)) (rw (length-bigEndian, length-bigEndian)) (omega arith) in
+    let next : length (front ++ (bigEndian 2 (count + 1) ++ dotsBytes ds)) ≡ end - dotSize = simp (length-append, length-bigEndian, length-dots) (omega arith) in
+    let second = put-next o counted (putAt counted (end - dotSize) (dotBytes d)) (front ++ (bigEndian 2 (count + 1) ++ dotsBytes ds)) (dotBytes d) 0 (end - dotSize) first (omega arith) refl (omega arith) in
     rw (ne-eqb (count + 1) 1 (λ q. omega arith)) (second ∙ ap (putAt o 0) (rw (more, dots-append, append-nil, append-assoc, append-assoc, append-assoc)))
 
 -- ---- what a listing has come to
@@ -109,7 +109,7 @@ module _ (whole : List Line) (keys : Bytes) (l : OpenLine) (bytes : Bytes) where
       (same, s .size ∙ ap length same, s .labelled ∙ ap length all)
 
   -- the open line takes its bytes
-  pub listed-line : (rest : List Entry) → Listed whole keys rest l bytes → 0 < l .count → length (lineLabel keys l) + 3 + 9 * l .count ≤ l .bytes
+  pub listed-line : (rest : List Entry) → Listed whole keys rest l bytes → 0 < l .count → length (lineLabel keys l) + 3 + dotSize * l .count ≤ l .bytes
   listed-line rest s pos =
       let filled : 0 < length (s .dots) = omega (arith, s .counted) in
       let all : l .bytes ≡ length (listingBytes (s .closed)) + length (lineBytes (line (lineLabel keys l) (s .dots))) =
@@ -178,7 +178,7 @@ module _ (whole : List Line) (keys : Bytes) (rest : List Entry) (l : OpenLine) (
         let filled : 0 < length (s .dots) = omega (arith, s .counted, open-count keys l (partAt keys from (to - from)) t) in
         let more : length (s .dots ++ (d ∷ [])) ≡ length (s .dots) + 1 = length-append (s .dots) (d ∷ []) in
         let now : before ≡ listingBytes (s .closed) ++ lineBytes (line label (s .dots)) = s .written ∙ bytes-open (s .closed) label (s .dots) filled in
-        let bytes : length before ≡ length (listingBytes (s .closed)) + (length label + 3 + 9 * length (s .dots)) = ap length now ∙ rw (length-append, length-line) in
+        let bytes : length before ≡ length (listingBytes (s .closed)) + (length label + 3 + dotSize * length (s .dots)) = ap length now ∙ rw (length-append, length-line) in
         record {
           closed = s .closed;
           dots = s .dots ++ (d ∷ []);
@@ -196,12 +196,12 @@ module _ (whole : List Line) (keys : Bytes) (rest : List Entry) (l : OpenLine) (
         let after = listed-more t in
         let filled = open-count keys l (partAt keys from (to - from)) t in
         let now : before ≡ listingBytes (s .closed) ++ lineBytes (line (lineLabel keys l) (s .dots)) = s .written ∙ bytes-open (s .closed) (lineLabel keys l) (s .dots) (omega (arith, s .counted)) in
-        let size : l .bytes + 9 ≡ length (listingBytes (s .closed) ++ lineBytes (line (lineLabel keys l) (s .dots))) + 9 = rw (← now) (omega (arith, s .size)) in
-        let room : l .bytes + 9 ≤ length (listingBytes whole) = omega (arith, after .size, listed-room whole keys (longerLine l) _ rest after) in
+        let size : l .bytes + dotSize ≡ length (listingBytes (s .closed) ++ lineBytes (line (lineLabel keys l) (s .dots))) + dotSize = rw (← now) (omega (arith, s .size)) in
+        let room : l .bytes + dotSize ≤ length (listingBytes whole) = omega (arith, after .size, listed-room whole keys (longerLine l) _ rest after) in
         record {
           bytes = listingBytes (s .closed) ++ lineBytes (line (lineLabel keys l) (s .dots ++ (d ∷ [])));
           listed = after;
-          writes = λ o out fits e. written-more o out (listingBytes (s .closed)) (lineLabel keys l) (partAt keys from (to - from)) (s .dots) d (l .bytes + 9) (l .count) (e ∙ ap (putAt o 0) now) (s .counted) filled size (omega arith);
+          writes = λ o out fits e. written-more o out (listingBytes (s .closed)) (lineLabel keys l) (partAt keys from (to - from)) (s .dots) d (l .bytes + dotSize) (l .count) (e ∙ ap (putAt o 0) now) (s .counted) filled size (omega arith);
         }
 
     entry-in-new-line : isOpen keys l (partAt keys from (to - from)) ≡ false → EntryListed whole keys rest before (partAt keys from (to - from)) d (newLine l from to)
@@ -209,11 +209,11 @@ module _ (whole : List Line) (keys : Bytes) (rest : List Entry) (l : OpenLine) (
         let label : Label = partAt keys from (to - from) in
         let after = listed-first f in
         let sized : length label ≡ to - from = part-length keys from (to - from) (omega arith) in
-        let room : l .bytes + (to - from) + 12 ≤ length (listingBytes whole) = omega (arith, after .size, listed-room whole keys (newLine l from to) _ rest after) in
+        let room : l .bytes + (to - from) + newLineFixed ≤ length (listingBytes whole) = omega (arith, after .size, listed-room whole keys (newLine l from to) _ rest after) in
         record {
           bytes = before ++ lineBytes (line label (d ∷ []));
           listed = after;
-          writes = λ o out fits e. written-first o out before label d (l .bytes + (to - from) + 12) e (omega (arith, s .size)) (omega arith);
+          writes = λ o out fits e. written-first o out before label d (l .bytes + (to - from) + newLineFixed) e (omega (arith, s .size)) (omega arith);
         }
 
     pub entry-listed : EntryListed whole keys rest before (partAt keys from (to - from)) d (nextLine keys l from to)

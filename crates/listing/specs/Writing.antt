@@ -8,24 +8,26 @@ use lib.ListN.{length, drop}
 use Rattle.wire.specs.Lists.{member}
 use Rattle.wire.specs.Bytes.{Bytes, bigEndian, compareBytes, partAt, putAt}
 use Rattle.dots.specs.declared.Dot.{Dot}
-use Rattle.dots.specs.Names.{Label}
+use Rattle.dots.specs.Names.{Label, labelMost}
 use Rattle.dots.specs.Dots.{compareDots}
-use Rattle.dots.specs.Wire.{dotBytes}
+use Rattle.dots.specs.Wire.{dotBytes, dotSize}
 use Rattle.dots.specs.Entries.{entry}
 use Rattle.listing.specs.declared.ListedKey.{ListedKey}
 use Rattle.listing.specs.declared.OpenLine.{OpenLine}
+use Rattle.listing.specs.Listing.{newLineFixed}
 use Rattle.store.specs.Cut.{entriesIn}
 use Rattle.store.specs.Valid.{keysFit}
+use Rattle.keys.specs.Key.{labelKeyFixed, suffixSize, prefixFixed}
 
 -- a key at a place of keys end to end: the entry that it says, and the keys after it
 pub record KeyAt (n : ℕ) (keys : Bytes) (tombstone : List Dot) (at : ℕ) (k : ListedKey) : Type 0 where
   pub says : entriesIn n (drop at keys) ≡ entry (partAt keys (k .from) (k .to - k .from)) (k .dot) ∷ entriesIn n (drop (k .end) keys)
   pub live-is : k .live ≡ not (member compareDots (k .dot) tombstone)
   pub rest-fits : keysFit n (drop (k .end) keys) ≡ true
-  pub from-is : k .from ≡ at + n + 4
-  pub to-is : k .to + 11 ≡ k .end
-  pub low : at + n + 16 ≤ k .end
-  pub high : k .end ≤ at + n + 47
+  pub from-is : k .from ≡ at + n + prefixFixed
+  pub to-is : k .to + suffixSize ≡ k .end
+  pub low : at + n + (labelKeyFixed + 1) ≤ k .end
+  pub high : k .end ≤ at + n + (labelKeyFixed + labelMost)
   pub within : k .end ≤ length keys
 
 -- the label of the line, which stands in the keys
@@ -38,11 +40,11 @@ noLine = record { from = 0; to = 0; count = 0; bytes = 0; labels = 0 }
 
 -- one dot more
 abbrev pub longerLine : OpenLine → OpenLine
-longerLine l = record { from = l .from; to = l .to; count = l .count + 1; bytes = l .bytes + 9; labels = l .labels }
+longerLine l = record { from = l .from; to = l .to; count = l .count + 1; bytes = l .bytes + dotSize; labels = l .labels }
 
 -- a new line with one dot: label length, label, two bytes and nine
 abbrev pub newLine : OpenLine → ℕ → ℕ → OpenLine
-newLine l from to = record { from = from; to = to; count = 1; bytes = l .bytes + (to - from) + 12; labels = l .labels + 1 }
+newLine l from to = record { from = from; to = to; count = 1; bytes = l .bytes + (to - from) + newLineFixed; labels = l .labels + 1 }
 
 -- whether a label is that of the open line
 unfoldable pub isOpen : Bytes → OpenLine → Label → Bool
@@ -53,8 +55,8 @@ nextLine keys l from to = cond (isOpen keys l (partAt keys from (to - from))) (l
 
 -- before the first dot of a line that ends at a place: the length of its label, and the label
 unfoldable pub labelWritten : Bytes → ℕ → ℕ → Label → Bytes
-labelWritten out end count label = cond (eqb count 1) (putAt out (end - 12 - length label) (length label ∷ label)) out
+labelWritten out end count label = cond (eqb count 1) (putAt out (end - newLineFixed - length label) (length label ∷ label)) out
 
 -- the last dot of a line that ends at a place, and the number of its dots
 unfoldable pub dotWritten : Bytes → ℕ → ℕ → Label → Dot → Bytes
-dotWritten out end count label dot = putAt (putAt (labelWritten out end count label) (end - 9 * count - 2) (bigEndian 2 count)) (end - 9) (dotBytes dot)
+dotWritten out end count label dot = putAt (putAt (labelWritten out end count label) (end - dotSize * count - 2) (bigEndian 2 count)) (end - dotSize) (dotBytes dot)

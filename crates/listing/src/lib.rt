@@ -2,19 +2,25 @@
 ghost use mathlib.Core.Path.{_≡_};
 ghost use mathlib.Core.Bool.{true, not};
 ghost use mathlib.Core.List.{_++_};
-ghost use Prim.Native.Nat.{_+_, _*_, _≤_, _<_};
+ghost use Prim.Native.Nat.{_+_, _*_, _^_, _≤_, _<_};
 ghost use lib.ListN.{length, drop};
 ghost use Rattle.wire.specs.Lists.{any, member};
 ghost use Rattle.wire.specs.Bytes.{compareBytes, bigEndian};
 ghost use Rattle.dots.specs.Dots.{compareDots, ascendingDots};
-ghost use Rattle.dots.specs.Wire.{dotsOf};
+ghost use Rattle.dots.specs.Wire.{dotsOf, dotSize};
 ghost use Rattle.dots.specs.Entries.{Entry, entry};
 ghost use Rattle.slots.specs.Slots.{Slotted};
 ghost use Rattle.store.specs.Cut.{entriesIn};
-ghost use Rattle.store.specs.Valid.{keysFit};
-ghost use Rattle.listing.specs.Listing.{linesOfLive, listingBytes};
+ghost use Rattle.store.specs.Valid.{keysFit, storeMost};
+ghost use Rattle.listing.specs.Listing.{linesOfLive, listingBytes, lineFixed, newLineFixed};
 ghost use lib.Dec.{isEq};
 ghost use Rattle.listing.specs.Writing.{KeyAt, nextLine, labelWritten, dotWritten};
+ghost use Rattle.dots.specs.Names.{nameMost};
+
+// Bytes of a line beside its label and its dots (length, number of dots), and beside its label where it has one dot.
+const LINE_FIXED: usize = 3;
+
+const NEW_LINE_FIXED: usize = LINE_FIXED + dots::DOT_SIZE;
 
 // How many bytes a listing takes, and how many labels it has.
 pub struct ListingSize {
@@ -44,16 +50,16 @@ struct ListedKey {
 }
 
 // The key at a place, with the slots of the tombstone's dots.
-fn listed_key(n: usize, keys: &[u8], tombstone: &[u8], slots: &[u8; 1024], at: usize) -> ListedKey
-    requires { ⌜ (n ≤ 16) × (at < length (now keys)) × (keysFit n (drop at (now keys)) ≡ true) × (ascendingDots (dotsOf (now tombstone)) ≡ true) × Slotted (dotsOf (now tombstone)) (now slots) ⌝ }
+fn listed_key(n: usize, keys: &[u8], tombstone: &[u8], slots: &slots::Slots, at: usize) -> ListedKey
+    requires { ⌜ (n ≤ nameMost) × (at < length (now keys)) × (keysFit n (drop at (now keys)) ≡ true) × (ascendingDots (dotsOf (now tombstone)) ≡ true) × Slotted (dotsOf (now tombstone)) (now slots) ⌝ }
     ensures { λ r. ⌜ KeyAt n (now (keys .entry)) (dotsOf (now (tombstone .entry))) at r ⌝ }
 {
     let end = at + store::key_length(n, &keys[at..]);
     let dot = store::key_dot(&keys[at..end]);
     let dead = slots::holds_slotted(tombstone, slots, dot);
     ListedKey {
-        from: at + n + 4,
-        to: end - 11,
+        from: at + n + keys::PREFIX_FIXED,
+        to: end - keys::SUFFIX_SIZE,
         end,
         dot,
         live: !dead,
@@ -62,13 +68,13 @@ fn listed_key(n: usize, keys: &[u8], tombstone: &[u8], slots: &[u8; 1024], at: u
 
 // Whether some key's dot is not in the tombstone.
 pub fn any_live(n: usize, keys: &[u8], tombstone: &[u8]) -> bool
-    requires { ⌜ (n ≤ 16) × (keysFit n (now keys) ≡ true) × (ascendingDots (dotsOf (now tombstone)) ≡ true) ⌝ }
+    requires { ⌜ (n ≤ nameMost) × (keysFit n (now keys) ≡ true) × (ascendingDots (dotsOf (now tombstone)) ≡ true) ⌝ }
     ensures { λ r. ⌜ r ≡ any (λ (e : Entry). not (member compareDots (e .dot) (dotsOf (now (tombstone .entry))))) (entriesIn n (now (keys .entry))) ⌝ }
 {
     if keys.len() == 0 {
         return false;
     }
-    let slots = [1u8; 1024];
+    let slots = [1u8; slots::SLOTS];
     let mut at: usize = 0;
     while at < keys.len() {
         let stored = listed_key(n, keys, tombstone, &slots, at);
@@ -91,7 +97,7 @@ fn same_label(a: &[u8], b: &[u8]) -> bool
 // The line after a live key with the label from a place of the keys to another:
 // one dot more where the label is the line's, else a new line.
 fn next_line(keys: &[u8], line: OpenLine, from: usize, to: usize) -> OpenLine
-    requires { ⌜ (length (now keys) ≤ 65536) × (line .from ≤ line .to) × (line .to ≤ length (now keys)) × (from ≤ to) × (to ≤ length (now keys)) × (line .count ≤ 65536) × (line .bytes ≤ 65536) × (line .labels ≤ 65536) ⌝ }
+    requires { ⌜ (length (now keys) ≤ storeMost) × (line .from ≤ line .to) × (line .to ≤ length (now keys)) × (from ≤ to) × (to ≤ length (now keys)) × (line .count ≤ storeMost) × (line .bytes ≤ storeMost) × (line .labels ≤ storeMost) ⌝ }
     ensures { λ r. ⌜ r ≡ nextLine (now (keys .entry)) line from to ⌝ }
 {
     let first = line.from;
@@ -102,7 +108,7 @@ fn next_line(keys: &[u8], line: OpenLine, from: usize, to: usize) -> OpenLine
             from: first,
             to: last,
             count: line.count + 1,
-            bytes: line.bytes + 9,
+            bytes: line.bytes + dots::DOT_SIZE,
             labels: line.labels,
         };
     }
@@ -110,14 +116,14 @@ fn next_line(keys: &[u8], line: OpenLine, from: usize, to: usize) -> OpenLine
         from,
         to,
         count: 1,
-        bytes: line.bytes + (to - from) + 12,
+        bytes: line.bytes + (to - from) + NEW_LINE_FIXED,
         labels: line.labels + 1,
     }
 }
 
 // How long the listing is, and how many labels it has.
-pub fn listing_size(n: usize, keys: &[u8], tombstone: &[u8], slots: &[u8; 1024]) -> ListingSize
-    requires { ⌜ (n ≤ 16) × (length (now keys) ≤ 65536) × (keysFit n (now keys) ≡ true) × (ascendingDots (dotsOf (now tombstone)) ≡ true) × Slotted (dotsOf (now tombstone)) (now slots) ⌝ }
+pub fn listing_size(n: usize, keys: &[u8], tombstone: &[u8], slots: &slots::Slots) -> ListingSize
+    requires { ⌜ (n ≤ nameMost) × (length (now keys) ≤ storeMost) × (keysFit n (now keys) ≡ true) × (ascendingDots (dotsOf (now tombstone)) ≡ true) × Slotted (dotsOf (now tombstone)) (now slots) ⌝ }
     ensures { λ r. ⌜ (r .bytes ≡ length (listingBytes (linesOfLive (dotsOf (now (tombstone .entry))) (entriesIn n (now (keys .entry)))))) × (r .labels ≡ length (linesOfLive (dotsOf (now (tombstone .entry))) (entriesIn n (now (keys .entry))))) ⌝ }
 {
     let mut line = OpenLine {
@@ -143,7 +149,7 @@ pub fn listing_size(n: usize, keys: &[u8], tombstone: &[u8], slots: &[u8; 1024])
 
 // A number in 2 bytes.
 fn count_bytes(n: usize) -> [u8; 2]
-    requires { ⌜ n < 65536 ⌝ }
+    requires { ⌜ n < 256 ^ 2 ⌝ }
     ensures { λ r. ⌜ r ≡ bigEndian 2 n ⌝ }
 {
     [(n / 256) as u8, (n % 256) as u8]
@@ -151,25 +157,25 @@ fn count_bytes(n: usize) -> [u8; 2]
 
 // Before the first dot of a line that ends at a place, writes the length of its label and the label.
 fn write_label(out: &mut [u8], end: usize, count: usize, label: &[u8])
-    requires { ⌜ (length (now label) < 256) × (length (now label) + 12 ≤ end) × (end ≤ length (now out)) ⌝ }
+    requires { ⌜ (length (now label) < 256) × (length (now label) + newLineFixed ≤ end) × (end ≤ length (now out)) ⌝ }
     ensures { λ _. ⌜ now (out .exit) ≡ labelWritten (now (out .entry)) end count (now (label .entry)) ⌝ }
 {
     if count != 1 {
         return;
     }
     let size = [label.len() as u8];
-    let next = moves::put(out, end - 12 - label.len(), &size);
+    let next = moves::put(out, end - NEW_LINE_FIXED - label.len(), &size);
     moves::put(out, next, label);
 }
 
 // Writes the last dot of a line that ends at a place, the number of its dots, and before the first dot the label.
 fn write_dot(out: &mut [u8], end: usize, count: usize, label: &[u8], dot: dots::Dot)
-    requires { ⌜ (length (now label) < 256) × (1 ≤ count) × (count < 65536) × (length (now label) + 3 + 9 * count ≤ end) × (end ≤ length (now out)) ⌝ }
+    requires { ⌜ (length (now label) < 256) × (1 ≤ count) × (count < 256 ^ 2) × (length (now label) + lineFixed + dotSize * count ≤ end) × (end ≤ length (now out)) ⌝ }
     ensures { λ _. ⌜ now (out .exit) ≡ dotWritten (now (out .entry)) end count (now (label .entry)) dot ⌝ }
 {
     write_label(out, end, count, label);
-    moves::put(out, end - 9 * count - 2, &count_bytes(count));
-    moves::put(out, end - 9, &dots::dot_bytes(dot));
+    moves::put(out, end - dots::DOT_SIZE * count - 2, &count_bytes(count));
+    moves::put(out, end - dots::DOT_SIZE, &dots::dot_bytes(dot));
 }
 
 // Writes the listing at the front of out; the rest keeps its values. Returns how long it is, and how many labels it has.
@@ -177,10 +183,10 @@ pub fn write_listing(
     n: usize,
     keys: &[u8],
     tombstone: &[u8],
-    slots: &[u8; 1024],
+    slots: &slots::Slots,
     out: &mut [u8],
 ) -> ListingSize
-    requires { ⌜ (n ≤ 16) × (length (now keys) ≤ 65536) × (keysFit n (now keys) ≡ true) × (ascendingDots (dotsOf (now tombstone)) ≡ true) × Slotted (dotsOf (now tombstone)) (now slots) × (length (listingBytes (linesOfLive (dotsOf (now tombstone)) (entriesIn n (now keys)))) ≤ length (now out)) ⌝ }
+    requires { ⌜ (n ≤ nameMost) × (length (now keys) ≤ storeMost) × (keysFit n (now keys) ≡ true) × (ascendingDots (dotsOf (now tombstone)) ≡ true) × Slotted (dotsOf (now tombstone)) (now slots) × (length (listingBytes (linesOfLive (dotsOf (now tombstone)) (entriesIn n (now keys)))) ≤ length (now out)) ⌝ }
     ensures { λ r. ⌜ (r .bytes ≡ length (listingBytes (linesOfLive (dotsOf (now (tombstone .entry))) (entriesIn n (now (keys .entry)))))) × (r .labels ≡ length (linesOfLive (dotsOf (now (tombstone .entry))) (entriesIn n (now (keys .entry))))) × (now (out .exit) ≡ listingBytes (linesOfLive (dotsOf (now (tombstone .entry))) (entriesIn n (now (keys .entry)))) ++ drop (length (listingBytes (linesOfLive (dotsOf (now (tombstone .entry))) (entriesIn n (now (keys .entry)))))) (now (out .entry))) ⌝ }
 {
     let mut line = OpenLine {

@@ -13,7 +13,7 @@ use Rattle.dots.specs.declared.Dot.{Dot}
 use Rattle.dots.specs.Answer.{numberOf}
 use Rattle.dots.specs.Names.{Name, Label}
 use Rattle.dots.specs.Dots.{Context, contextMost}
-use Rattle.dots.specs.Wire.{dotsOf}
+use Rattle.dots.specs.Wire.{dotsOf, dotSize}
 use Rattle.dots.specs.Message.{Message, add, remove, contextOf}
 use Rattle.dots.proofs.Loops.{length-dotsOf}
 use Rattle.messages.specs.declared.MessageRead.{MessageRead}
@@ -73,7 +73,7 @@ module _ (s : Bytes) (accepts : numberOf (readAnswer s) ≡ 0) where
       let context : Bytes = partOf s (layoutOf s .context) in
       let end = accepted-within .context in
       let size : length context ≡ layoutOf s .context .len = part-length s (layoutOf s .context .at) (layoutOf s .context .len) (omega arith) in
-      let dots : length (contextOf (messageOf s)) ≡ length context / 9 = sym (ap length (context-span s)) ∙ length-dotsOf context in
+      let dots : length (contextOf (messageOf s)) ≡ length context / dotSize = sym (ap length (context-span s)) ∙ length-dotsOf context in
       let most = context-short (nameOf s) (messageOf s) (passed s accepts .rules) in
       let whole = context-whole s in
       (rw size whole, omega arith)

@@ -1,7 +1,7 @@
 -- How long messages are, and the longest. Assumes nothing.
 use mathlib.Core.Path.{_≡_, refl}
 use mathlib.Core.Bool.{true}
-use mathlib.Core.List.{[], _∷_, _++_, map}
+use mathlib.Core.List.{_++_}
 use Prim.Native.Nat.{_+_, _*_, _≤_}
 use native.Mathlib.Omega.{arith}
 use lib.ListN.{length, length-append, replicate}
@@ -10,24 +10,20 @@ use Rattle.wire.specs.Lists.{all, member, ascends, ascendsFrom}
 use Rattle.wire.proofs.Tests.{both}
 use Rattle.dots.specs.declared.Dot.{Dot}
 use Rattle.dots.specs.Names.{Name, Label, nameMost, labelMost, textOk}
-use Rattle.dots.specs.Dots.{Context, contextMost, actorOf, dotOf, dotOk, ascendingDots}
-use Rattle.dots.specs.Wire.{dotBytes}
+use Rattle.dots.specs.Dots.{Context, contextMost, actorOf, dotOf, consecutive, dotOk, ascendingDots}
+use Rattle.dots.specs.Wire.{dotBytes, dotSize}
 use Rattle.dots.specs.Message.{Message, add, remove}
 use Rattle.dots.proofs.RoundTrip.{length-dot, length-dots}
-use Rattle.messages.specs.Message.{messageOk, messageBytes, messageMost, counted, contextBytes}
+use Rattle.messages.specs.Message.{messageOk, messageBytes, messageMost, counted, contextBytes, addFixed, removeFixed}
 
-pub length-add : (name : Name) (label : Label) (d : Dot) (ds : Context) → length (messageBytes name (add label d ds)) ≡ length name + length label + 9 * length ds + 18
+pub length-add : (name : Name) (label : Label) (d : Dot) (ds : Context) → length (messageBytes name (add label d ds)) ≡ length name + length label + dotSize * length ds + addFixed
 unfolding messageBytes
 length-add name label d ds =
     omega (arith, length-append name (counted label ++ (dotBytes d ++ contextBytes ds)), length-append label (dotBytes d ++ contextBytes ds), length-append (dotBytes d) (contextBytes ds), length-dot d, length-dots ds)
 
-pub length-remove : (name : Name) (ds : Context) → length (messageBytes name (remove ds)) ≡ length name + 9 * length ds + 8
+pub length-remove : (name : Name) (ds : Context) → length (messageBytes name (remove ds)) ≡ length name + dotSize * length ds + removeFixed
 unfolding messageBytes
 length-remove name ds = omega (arith, length-append name (contextBytes ds), length-dots ds)
-
--- "The longest valid message has 210 bytes"
-pub most-is-210 : messageMost ≡ 210
-most-is-210 = refl
 
 pub longest : (name : Name) (m : Message) → messageOk name m ≡ true → length (messageBytes name m) ≤ messageMost
 unfolding messageOk textOk
@@ -46,7 +42,7 @@ abbrev pub longestName : Name
 longestName = replicate nameMost 0x52
 
 abbrev pub longestAdd : Message
-longestAdd = add (replicate labelMost 0x42) (dotOf (actorOf 2) 1) (map (dotOf (actorOf 1)) (1 ∷ 2 ∷ 3 ∷ 4 ∷ 5 ∷ 6 ∷ 7 ∷ 8 ∷ 9 ∷ 10 ∷ 11 ∷ 12 ∷ 13 ∷ 14 ∷ 15 ∷ 16 ∷ []))
+longestAdd = add (replicate labelMost 0x42) (dotOf (actorOf 2) 1) (consecutive (actorOf 1) 1 contextMost)
 
 pub longest-reached : (messageOk longestName longestAdd ≡ true) × (length (messageBytes longestName longestAdd) ≡ messageMost)
 unfolding messageOk textOk all dotOk ascendingDots ascends ascendsFrom member

@@ -16,12 +16,12 @@ use Rattle.dots.specs.declared.Answer.the-variants.{Done}
 use Rattle.dots.specs.Answer.{numberOf}
 use Rattle.dots.specs.Names.{Name, Label}
 use Rattle.dots.specs.Dots.{Context}
-use Rattle.dots.specs.Wire.{dotBytes}
+use Rattle.dots.specs.Wire.{dotBytes, dotSize}
 use Rattle.dots.specs.Message.{Message, add, remove}
 use Rattle.dots.proofs.Table.{NoneHolds, none-holds}
 use Rattle.dots.proofs.Rules.{ascending-valid}
 use Rattle.dots.proofs.RoundTrip.{dot-on, dot-back}
-use Rattle.messages.specs.Message.{addKind, removeKind, namesOk, dotsOk, messageOk, messageBytes, counted, contextBytes, frontBytes}
+use Rattle.messages.specs.Message.{addKind, removeKind, namesOk, dotsOk, messageOk, messageBytes, counted, contextBytes, frontBytes, frontFixed}
 use Rattle.messages.specs.Read.{layoutOf, markOk, versionOk, shapeOk, messageAt, nameOf, messageOf, readRefusals, readAnswer}
 use Rattle.messages.proofs.Contexts.{context-on, context-back}
 use Rattle.messages.proofs.Lengths.{length-add, length-remove}
@@ -44,12 +44,12 @@ written-add name label d ds s e ok =
     let l : ℕ = length label in
     let kind : getD s 5 0 ≡ addKind = rw e in
     let name-len : getD s 6 0 ≡ n = rw e in
-    let text = part-on s 7 n name (counted label ++ (dotBytes d ++ contextBytes ds)) refl (rw e) in
-    let label-len = byte-on s (7 + n) l (label ++ (dotBytes d ++ contextBytes ds)) (text .1) in
-    let label-text = part-on s (7 + n + 1) l label (dotBytes d ++ contextBytes ds) refl (label-len .1) in
-    let own = dot-on s (7 + n + 1 + l) d (contextBytes ds) (search both) (label-text .1) in
-    let context = context-on s (7 + n + 1 + l + 9) ds (ascending-valid ds (search both)) (own .1) in
-    let size : 7 + n + 1 + l + 9 + 1 + 9 * length ds ≡ length s = omega (arith, ap length e, length-add name label d ds) in
+    let text = part-on s frontFixed n name (counted label ++ (dotBytes d ++ contextBytes ds)) refl (rw e) in
+    let label-len = byte-on s (frontFixed + n) l (label ++ (dotBytes d ++ contextBytes ds)) (text .1) in
+    let label-text = part-on s (frontFixed + n + 1) l label (dotBytes d ++ contextBytes ds) refl (label-len .1) in
+    let own = dot-on s (frontFixed + n + 1 + l) d (contextBytes ds) (search both) (label-text .1) in
+    let context = context-on s (frontFixed + n + 1 + l + dotSize) ds (ascending-valid ds (search both)) (own .1) in
+    let size : frontFixed + n + 1 + l + dotSize + 1 + dotSize * length ds ≡ length s = omega (arith, ap length e, length-add name label d ds) in
     record {
       marked = rw (le-leb 5 (length s) (omega arith), e);
       version = rw e;
@@ -64,9 +64,9 @@ written-remove name ds s e ok =
     let n : ℕ = length name in
     let kind : getD s 5 0 ≡ removeKind = rw e in
     let name-len : getD s 6 0 ≡ n = rw e in
-    let text = part-on s 7 n name (contextBytes ds) refl (rw e) in
-    let context = context-on s (7 + n) ds (ascending-valid ds (search both)) (text .1) in
-    let size : 7 + n + 1 + 9 * length ds ≡ length s = omega (arith, ap length e, length-remove name ds) in
+    let text = part-on s frontFixed n name (contextBytes ds) refl (rw e) in
+    let context = context-on s (frontFixed + n) ds (ascending-valid ds (search both)) (text .1) in
+    let size : frontFixed + n + 1 + dotSize * length ds ≡ length s = omega (arith, ap length e, length-remove name ds) in
     record {
       marked = rw (le-leb 5 (length s) (omega arith), e);
       version = rw e;
@@ -100,8 +100,8 @@ messageBytes-injective name name′ m m′ ok ok′ e =
 -- ---- read, then written
 
 module _ (s : Bytes) (small : AreBytes s) (marked : markOk s ≡ true) (version : versionOk s ≡ true) where
-  front-back : (kind : ℕ) (rest : Bytes) → getD s 5 0 ≡ kind → 7 + getD s 6 0 ≤ length s → rest ≡ drop (7 + getD s 6 0) s
-      → frontBytes kind (take (getD s 6 0) (drop 7 s)) ++ rest ≡ s
+  front-back : (kind : ℕ) (rest : Bytes) → getD s 5 0 ≡ kind → frontFixed + getD s 6 0 ≤ length s → rest ≡ drop (frontFixed + getD s 6 0) s
+      → frontBytes kind (take (getD s 6 0) (drop frontFixed s)) ++ rest ≡ s
   unfolding markOk versionOk
   front-back kind rest e fits r =
       let first : getD s 0 0 ≡ 0x50 = eqb-true _ _ (search both) in
@@ -110,22 +110,22 @@ module _ (s : Bytes) (small : AreBytes s) (marked : markOk s ≡ true) (version 
       let number : getD s 3 0 * 256 + getD s 4 0 ≡ 1 = eqb-true _ _ version in
       let high : getD s 3 0 ≡ 0 = omega arith in
       let low : getD s 4 0 ≡ 1 = omega arith in
-      let bytes : getD s 0 0 ∷ getD s 1 0 ∷ getD s 2 0 ∷ getD s 3 0 ∷ getD s 4 0 ∷ getD s 5 0 ∷ getD s 6 0 ∷ drop 7 s ≡ s =
+      let bytes : getD s 0 0 ∷ getD s 1 0 ∷ getD s 2 0 ∷ getD s 3 0 ∷ getD s 4 0 ∷ getD s 5 0 ∷ getD s 6 0 ∷ drop frontFixed s ≡ s =
       rw (byte-back s 6 (omega arith), byte-back s 5 (omega arith), byte-back s 4 (omega arith), byte-back s 3 (omega arith), byte-back s 2 (omega arith), byte-back s 1 (omega arith), byte-back s 0 (omega arith)) in
-      rw (part-length s 7 (getD s 6 0) fits, r, part-back s 7 (getD s 6 0)) (rw (first, second, third, high, low, e) at bytes)
+      rw (part-length s frontFixed (getD s 6 0) fits, r, part-back s frontFixed (getD s 6 0)) (rw (first, second, third, high, low, e) at bytes)
 
   back : (b : Bool) → eqb (getD s 5 0) addKind ≡ b → shapeOk s (layoutOf s) ≡ true → messageBytes (nameOf s) (messageOf s) ≡ s
   unfolding messageBytes layoutOf messageAt nameOf messageOf
   back true kind shaped =
       let n : ℕ = getD s 6 0 in
-      let l : ℕ = getD s (7 + n) 0 in
+      let l : ℕ = getD s (frontFixed + n) 0 in
       let end = add-end s shaped kind in
       rw (kind, kind) (front-back addKind _ (eqb-true _ _ kind) (omega arith)
-      (rw (context-back s (7 + n + 1 + l + 9) small end, dot-back s small (7 + n + 1 + l) (omega arith), part-length s (7 + n + 1) l (omega arith), part-back s (7 + n + 1) l) (byte-back s (7 + n) (omega arith))))
+      (rw (context-back s (frontFixed + n + 1 + l + dotSize) small end, dot-back s small (frontFixed + n + 1 + l) (omega arith), part-length s (frontFixed + n + 1) l (omega arith), part-back s (frontFixed + n + 1) l) (byte-back s (frontFixed + n) (omega arith))))
   back false kind shaped =
       let n : ℕ = getD s 6 0 in
       let end = remove-end s shaped kind in
-      rw (kind, kind) (front-back removeKind _ (end .0) (omega arith) (context-back s (7 + n) small (end .1)))
+      rw (kind, kind) (front-back removeKind _ (end .0) (omega arith) (context-back s (frontFixed + n) small (end .1)))
 
 -- accepted bytes pass every test
 pub record Passed (s : Bytes) : Type 0 where

@@ -12,17 +12,17 @@ use Rattle.wire.proofs.Fields.{part-length}
 use Rattle.dots.specs.declared.Dot.{Dot}
 use Rattle.dots.specs.Names.{Label}
 use Rattle.dots.specs.Dots.{Context}
-use Rattle.dots.specs.Wire.{dotAt, dotsOf}
+use Rattle.dots.specs.Wire.{dotAt, dotsOf, dotSize}
 use Rattle.dots.specs.Message.{add, remove, contextOf}
 use Rattle.dots.proofs.Loops.{length-dotsOf}
 use Rattle.messages.specs.declared.Layout.{Layout}
-use Rattle.messages.specs.Message.{addKind, removeKind, messageBytes}
+use Rattle.messages.specs.Message.{addKind, removeKind, messageBytes, frontFixed}
 use Rattle.messages.specs.Read.{addLayout, removeLayout, layoutOf, shapeOk, messageAt, nameOf, messageOf}
 use Rattle.messages.specs.Layouts.{Within}
 use Rattle.messages.proofs.Lengths.{length-add, length-remove}
 
 -- an add's dot lies within the bytes
-pub own-fits : (s : Bytes) (l : Layout) → Within s l → l .kind ≡ addKind → l .dot + 9 ≤ length s
+pub own-fits : (s : Bytes) (l : Layout) → Within s l → l .kind ≡ addKind → l .dot + dotSize ≤ length s
 own-fits s l within kind = within .dot kind
 
 -- a message's context is what its span says, whole dots
@@ -35,23 +35,23 @@ module _ (s : Bytes) where
       either true label d ds = refl
       either false label d ds = refl
 
-  pub context-whole : layoutOf s .context .len % 9 ≡ 0
+  pub context-whole : layoutOf s .context .len % dotSize ≡ 0
   unfolding layoutOf
   context-whole = either (eqb (getD s 5 0) addKind)
     where
-      either : (b : Bool) → cond b (addLayout s) (removeLayout s) .context .len % 9 ≡ 0
+      either : (b : Bool) → cond b (addLayout s) (removeLayout s) .context .len % dotSize ≡ 0
       either true = omega arith
       either false = omega arith
 
 module _ (s : Bytes) (shaped : shapeOk s (layoutOf s) ≡ true) where
   -- the context of an add ends the bytes
   pub add-end : eqb (getD s 5 0) addKind ≡ true
-      → 7 + getD s 6 0 + 1 + getD s (7 + getD s 6 0) 0 + 9 + 1 + 9 * getD s (7 + getD s 6 0 + 1 + getD s (7 + getD s 6 0) 0 + 9) 0 ≡ length s
+      → frontFixed + getD s 6 0 + 1 + getD s (frontFixed + getD s 6 0) 0 + dotSize + 1 + dotSize * getD s (frontFixed + getD s 6 0 + 1 + getD s (frontFixed + getD s 6 0) 0 + dotSize) 0 ≡ length s
   unfolding layoutOf shapeOk
   add-end kind = eqb-true _ _ (rw (kind, kind) at shaped)
 
   -- a message that is no add is a remove, whose context ends the bytes
-  pub remove-end : eqb (getD s 5 0) addKind ≡ false → (getD s 5 0 ≡ removeKind) × (7 + getD s 6 0 + 1 + 9 * getD s (7 + getD s 6 0) 0 ≡ length s)
+  pub remove-end : eqb (getD s 5 0) addKind ≡ false → (getD s 5 0 ≡ removeKind) × (frontFixed + getD s 6 0 + 1 + dotSize * getD s (frontFixed + getD s 6 0) 0 ≡ length s)
   unfolding layoutOf shapeOk
   remove-end kind =
       let known : _ = rw (kind, kind) at shaped in
@@ -74,25 +74,25 @@ module _ (s : Bytes) (shaped : shapeOk s (layoutOf s) ≡ true) where
   unfolding layoutOf messageAt nameOf messageOf
   length-by true kind =
       let n : ℕ = getD s 6 0 in
-      let l : ℕ = getD s (7 + n) 0 in
-      let at : ℕ = 7 + n + 1 + l + 9 in
+      let l : ℕ = getD s (frontFixed + n) 0 in
+      let at : ℕ = frontFixed + n + 1 + l + dotSize in
       let k : ℕ = getD s at 0 in
       let end = add-end kind in
-      let context : Bytes = partAt s (at + 1) (9 * k) in
+      let context : Bytes = partAt s (at + 1) (dotSize * k) in
       rw (kind, kind) (omega (
         arith,
-        length-add (partAt s 7 n) (partAt s (7 + n + 1) l) (dotAt s (7 + n + 1 + l)) (dotsOf context),
+        length-add (partAt s frontFixed n) (partAt s (frontFixed + n + 1) l) (dotAt s (frontFixed + n + 1 + l)) (dotsOf context),
         length-dotsOf context,
-        part-length s 7 n (omega arith),
-        part-length s (7 + n + 1) l (omega arith),
-        part-length s (at + 1) (9 * k) (omega arith),
+        part-length s frontFixed n (omega arith),
+        part-length s (frontFixed + n + 1) l (omega arith),
+        part-length s (at + 1) (dotSize * k) (omega arith),
       ))
   length-by false kind =
       let n : ℕ = getD s 6 0 in
-      let k : ℕ = getD s (7 + n) 0 in
+      let k : ℕ = getD s (frontFixed + n) 0 in
       let end = remove-end kind .1 in
-      let context : Bytes = partAt s (7 + n + 1) (9 * k) in
-      rw (kind, kind) (omega (arith, length-remove (partAt s 7 n) (dotsOf context), length-dotsOf context, part-length s 7 n (omega arith), part-length s (7 + n + 1) (9 * k) (omega arith)))
+      let context : Bytes = partAt s (frontFixed + n + 1) (dotSize * k) in
+      rw (kind, kind) (omega (arith, length-remove (partAt s frontFixed n) (dotsOf context), length-dotsOf context, part-length s frontFixed n (omega arith), part-length s (frontFixed + n + 1) (dotSize * k) (omega arith)))
 
   -- the bytes are as many as those of the message that they say
   pub shape-length : length (messageBytes (nameOf s) (messageOf s)) ≡ length s

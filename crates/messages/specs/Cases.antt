@@ -1,15 +1,15 @@
 -- Worked cases of document 01, "Both sides of the line": set "R1", label "B7".
 use Prim.Native.Nat.{ℕ}
 use mathlib.Core.Path.{_≡_}
-use mathlib.Core.List.{List, [], _∷_, map}
+use mathlib.Core.List.{List, [], _∷_}
 use lib.ListN.{replicate}
 use Rattle.wire.specs.Bytes.{Bytes}
 use Rattle.dots.specs.declared.Answer.the-variants.{Done}
 use Rattle.dots.specs.Answer.{numberOf}
 use Rattle.dots.specs.Names.{Name, Label}
-use Rattle.dots.specs.Dots.{Context, actorOf, dotOf}
+use Rattle.dots.specs.Dots.{actorOf, dotOf, consecutive}
 use Rattle.dots.specs.Message.{Message, add, remove}
-use Rattle.messages.specs.Message.{messageBytes}
+use Rattle.messages.specs.Message.{messageBytes, messageMost}
 use Rattle.messages.specs.Read.{nameOf, messageOf, readAnswer}
 
 -- a message of a set, and its bytes
@@ -54,10 +54,6 @@ abbrev pub Answers : List (Bytes × ℕ) → Type 0
 Answers [] = Unit {0}
 Answers (c ∷ cs) = (numberOf (readAnswer (c .0)) ≡ c .1) × Answers cs
 
--- the dots 1 to 17 of actor 3
-abbrev pub seventeen : Context
-seventeen = map (dotOf (actorOf 3)) (1 ∷ 2 ∷ 3 ∷ 4 ∷ 5 ∷ 6 ∷ 7 ∷ 8 ∷ 9 ∷ 10 ∷ 11 ∷ 12 ∷ 13 ∷ 14 ∷ 15 ∷ 16 ∷ 17 ∷ [])
-
 -- "PTL" and one byte; version 2 with no more bytes, and with unknown kind; version 1 with no more bytes; a byte left over;
 -- a label of 33 bytes; a context of 17 dots; an add whose context has its own dot
 abbrev pub refusedCases : List (Bytes × ℕ)
@@ -68,6 +64,13 @@ refusedCases =
     ∷ (0x50 ∷ 0x54 ∷ 0x4C ∷ 0x00 ∷ 0x01 ∷ [], 4)
     ∷ (0x50 ∷ 0x54 ∷ 0x4C ∷ 0x00 ∷ 0x01 ∷ 0x72 ∷ 0x02 ∷ 0x52 ∷ 0x31 ∷ 0x00 ∷ 0x00 ∷ [], 4)
     ∷ (messageBytes setR1 (add (replicate 33 0x42) (dotOf (actorOf 1) 1) []), 5)
-    ∷ (messageBytes setR1 (remove seventeen), 6)
+    ∷ (messageBytes setR1 (remove (consecutive (actorOf 3) 1 17)), 6)
     ∷ (messageBytes setR1 (add labelB7 (dotOf (actorOf 3) 2) (dotOf (actorOf 3) 2 ∷ [])), 6)
     ∷ []
+
+-- all of them, and "The longest valid message has 210 bytes"
+pub record MessageCases : Type 0 where
+  pub M1 : Holds m1
+  pub A1 : Holds a1
+  pub refused : Answers refusedCases
+  pub longest : messageMost ≡ 210

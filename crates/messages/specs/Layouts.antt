@@ -10,14 +10,14 @@ use Rattle.dots.specs.declared.Answer.the-variants.{BadShape, BadName, BadDot}
 use Rattle.dots.specs.declared.Dot.{Dot}
 use Rattle.dots.specs.Answer.{Refusals}
 use Rattle.dots.specs.Dots.{zeroDot}
-use Rattle.dots.specs.Wire.{dotAt}
+use Rattle.dots.specs.Wire.{dotAt, dotSize}
 use Rattle.messages.specs.declared.Layout.{Layout}
-use Rattle.messages.specs.Message.{addKind, namesOk, dotsOk}
+use Rattle.messages.specs.Message.{addKind, namesOk, dotsOk, frontFixed}
 use Rattle.messages.specs.Read.{shapeOk, nameAt, messageAt}
 
 -- each length byte is at most 255, so no sum of places overflows
 pub record Small (l : Layout) : Type 0 where
-  pub name-at : l .name .at ≤ 7
+  pub name-at : l .name .at ≤ frontFixed
   pub name-len : l .name .len ≤ 255
   pub label-at : l .label .at ≤ 263
   pub label-len : l .label .len ≤ 255
@@ -29,7 +29,7 @@ pub record Small (l : Layout) : Type 0 where
 pub record Within (s : Bytes) (l : Layout) : Type 0 where
   pub name : endOf (l .name) ≤ length s
   pub label : endOf (l .label) ≤ length s
-  pub dot : l .kind ≡ addKind → l .dot + 9 ≤ length s
+  pub dot : l .kind ≡ addKind → l .dot + dotSize ≤ length s
   pub context : endOf (l .context) ≡ length s
 
 -- an add's own dot, and the zero dot of a remove

@@ -8,7 +8,7 @@ use Rattle.wire.specs.Lists.{member}
 use Rattle.wire.specs.Bytes.{Bytes}
 use Rattle.dots.specs.Names.{Name, nameMost, labelMost, nameOk, labelOk}
 use Rattle.dots.specs.Dots.{Context, compareDots, dotOk, contextMost, contextOk}
-use Rattle.dots.specs.Wire.{dotBytes, dotsBytes}
+use Rattle.dots.specs.Wire.{dotBytes, dotsBytes, dotSize}
 use Rattle.dots.specs.Message.{Message, add, remove}
 
 -- the rules of set name and label (refusal 5)
@@ -47,6 +47,17 @@ unfoldable pub messageBytes : Name → Message → Bytes
 messageBytes name (add label dot context) = frontBytes addKind name ++ (counted label ++ (dotBytes dot ++ contextBytes context))
 messageBytes name (remove context) = frontBytes removeKind name ++ contextBytes context
 
--- "The longest valid message has 210 bytes": an add with every field at its longest
+-- bytes of a message's front beside the name: mark, version, kind, name length
+abbrev pub frontFixed : ℕ
+frontFixed = 7
+
+-- bytes of a remove beside name and context (front, number of dots), and of an add beside name, label and context (label length and dot too)
+abbrev pub removeFixed : ℕ
+removeFixed = frontFixed + 1
+
+abbrev pub addFixed : ℕ
+addFixed = removeFixed + 1 + dotSize
+
+-- the longest valid message: an add with every field at its longest
 abbrev pub messageMost : ℕ
-messageMost = 18 + nameMost + labelMost + 9 * contextMost
+messageMost = addFixed + nameMost + labelMost + dotSize * contextMost

@@ -11,7 +11,7 @@ use Rattle.dots.specs.declared.Answer.the-variants.{NoMark, BadVersion, BadShap
 use Rattle.dots.specs.Answer.{Refusals, firstOf, numberOf}
 use Rattle.dots.specs.Names.{Name}
 use Rattle.dots.specs.Dots.{zeroDot}
-use Rattle.dots.specs.Wire.{dotAt, dotsOf}
+use Rattle.dots.specs.Wire.{dotAt, dotsOf, dotSize}
 use Rattle.dots.specs.Message.{Message, add, remove}
 use Rattle.messages.specs.declared.Layout.{Layout}
 use Rattle.messages.specs.declared.MessageRead.{MessageRead}
@@ -23,14 +23,14 @@ countedAt s i = span (i + 1) (byteAt s i)
 
 -- the dots whose number stands at i
 abbrev pub dotsCountedAt : Bytes → ℕ → Span
-dotsCountedAt s i = span (i + 1) (9 * byteAt s i)
+dotsCountedAt s i = span (i + 1) (dotSize * byteAt s i)
 
 -- kind at 5, name from 6; then label, dot of 9 bytes, context. Bytes past the end count as 0.
 abbrev pub addLayout : Bytes → Layout
 addLayout s =
     let name = countedAt s 6 in
     let label = countedAt s (endOf name) in
-    record { kind = byteAt s 5; name = name; label = label; dot = endOf label; context = dotsCountedAt s (endOf label + 9) }
+    record { kind = byteAt s 5; name = name; label = label; dot = endOf label; context = dotsCountedAt s (endOf label + dotSize) }
 
 -- kind at 5, name from 6; then context
 abbrev pub removeLayout : Bytes → Layout

@@ -8,10 +8,11 @@ use Rattle.dots.specs.Names.{Name}
 use Rattle.dots.specs.Dots.{contextMost}
 use Rattle.dots.specs.Message.{Message}
 use Rattle.messages.specs.Message.{messageBytes}
+use Rattle.dots.specs.Wire.{dotSize}
 
 -- whole dots, no more than a context may have
 abbrev pub WholeContext : Bytes → Type 0
-WholeContext context = (length context % 9 ≡ 0) × (length context ≤ 9 * contextMost)
+WholeContext context = (length context % dotSize ≡ 0) × (length context ≤ dotSize * contextMost)
 
 -- the message at the front of a buffer and the rest as it was; its length is returned
 pub record Wrote (name : Name) (m : Message) (out out′ : Bytes) (r : ℕ) : Type 0 where

@@ -6,11 +6,17 @@ ghost use lib.ListN.{length};
 ghost use Rattle.wire.specs.Bytes.{putAt};
 ghost use Rattle.dots.specs.Answer.{firstOf};
 ghost use Rattle.dots.specs.Message.{add, remove};
-ghost use Rattle.dots.specs.Wire.{dotBytes, dotsOf};
-ghost use Rattle.messages.specs.Message.{namesOk, dotsOk, contextBytes, frontBytes};
+ghost use Rattle.dots.specs.Wire.{dotBytes, dotsOf, dotSize};
+ghost use Rattle.messages.specs.Message.{namesOk, dotsOk, contextBytes, frontBytes, addFixed, removeFixed, frontFixed};
 ghost use Rattle.messages.specs.Read.{countedAt, dotsCountedAt, addLayout, removeLayout, layoutOf, markOk, versionOk, shapeOk, nameAt, messageAt, readAnswer, foundMessage, noMessage, readOf};
 ghost use Rattle.messages.specs.Layouts.{Small, Within, ownDot, fieldRefusals, shapeRefusals};
 ghost use Rattle.messages.specs.Write.{WholeContext, Wrote};
+ghost use Rattle.dots.specs.Names.{labelMost, nameMost};
+
+// Bytes of a remove beside name and context: mark, version, kind, name length; number of dots.
+pub const REMOVE_FIXED: usize = 8;
+// Bytes of an add beside name, label and context: label length and dot too.
+pub const ADD_FIXED: usize = REMOVE_FIXED + 1 + dots::DOT_SIZE;
 
 // Where the fields of a message are: kind byte, name, label, the own dot's place, the context.
 pub struct Layout {
@@ -53,7 +59,7 @@ fn dots_counted_at(s: &[u8], at: usize) -> wire::Span
     let count = wire::size_at(s, at);
     wire::Span {
         at: at + 1,
-        len: 9 * count,
+        len: dots::DOT_SIZE * count,
     }
 }
 
@@ -64,7 +70,7 @@ fn add_layout(s: &[u8]) -> Layout
     let name = counted_at(s, 6);
     let label = counted_at(s, name.at + name.len);
     let dot = label.at + label.len;
-    let context = dots_counted_at(s, dot + 9);
+    let context = dots_counted_at(s, dot + dots::DOT_SIZE);
     Layout {
         kind: kind,
         name: name,
@@ -267,8 +273,8 @@ fn put_counted(out: &mut [u8], at: usize, count: u8, field: &[u8]) -> usize
 
 // Puts mark, version 1, kind and set name at the front.
 fn put_front(out: &mut [u8], kind: u8, name: &[u8]) -> usize
-    requires { ⌜ (length (now name) ≤ 16) × (length (now name) + 7 ≤ length (now out)) ⌝ }
-    ensures { λ r. ⌜ (r ≡ 7 + length (now (name .entry))) × (now (out .exit) ≡ putAt (now (out .entry)) 0 (frontBytes kind (now (name .entry)))) ⌝ }
+    requires { ⌜ (length (now name) ≤ nameMost) × (length (now name) + frontFixed ≤ length (now out)) ⌝ }
+    ensures { λ r. ⌜ (r ≡ frontFixed + length (now (name .entry))) × (now (out .exit) ≡ putAt (now (out .entry)) 0 (frontBytes kind (now (name .entry)))) ⌝ }
 {
     let head = [b'P', b'T', b'L', 0, 1, kind];
     let at = moves::put(out, 0, &head);
@@ -277,8 +283,8 @@ fn put_front(out: &mut [u8], kind: u8, name: &[u8]) -> usize
 
 // Puts a dot in nine bytes.
 fn put_dot(out: &mut [u8], at: usize, dot: dots::Dot) -> usize
-    requires { ⌜ at + 9 ≤ length (now out) ⌝ }
-    ensures { λ r. ⌜ (r ≡ at + 9) × (now (out .exit) ≡ putAt (now (out .entry)) at (dotBytes dot)) ⌝ }
+    requires { ⌜ at + dotSize ≤ length (now out) ⌝ }
+    ensures { λ r. ⌜ (r ≡ at + dotSize) × (now (out .exit) ≡ putAt (now (out .entry)) at (dotBytes dot)) ⌝ }
 {
     let bytes = dots::dot_bytes(dot);
     moves::put(out, at, &bytes)
@@ -289,12 +295,12 @@ fn put_context(out: &mut [u8], at: usize, context: &[u8]) -> usize
     requires { ⌜ WholeContext (now context) × (at + 1 + length (now context) ≤ length (now out)) ⌝ }
     ensures { λ r. ⌜ (r ≡ at + 1 + length (now (context .entry))) × (now (out .exit) ≡ putAt (now (out .entry)) at (contextBytes (dotsOf (now (context .entry))))) ⌝ }
 {
-    put_counted(out, at, (context.len() / 9) as u8, context)
+    put_counted(out, at, (context.len() / dots::DOT_SIZE) as u8, context)
 }
 
 // Writes an add message at the front of out. Returns its length.
 pub fn write_add(name: &[u8], label: &[u8], dot: dots::Dot, context: &[u8], out: &mut [u8]) -> usize
-    requires { ⌜ (length (now name) ≤ 16) × (length (now label) ≤ 32) × WholeContext (now context) × (length (now name) + length (now label) + length (now context) + 18 ≤ length (now out)) ⌝ }
+    requires { ⌜ (length (now name) ≤ nameMost) × (length (now label) ≤ labelMost) × WholeContext (now context) × (length (now name) + length (now label) + length (now context) + addFixed ≤ length (now out)) ⌝ }
     ensures { λ r. ⌜ Wrote (now (name .entry)) (add (now (label .entry)) dot (dotsOf (now (context .entry)))) (now (out .entry)) (now (out .exit)) r ⌝ }
 {
     let label_at = put_front(out, b'a', name);
@@ -305,7 +311,7 @@ pub fn write_add(name: &[u8], label: &[u8], dot: dots::Dot, context: &[u8], out:
 
 // Writes a remove message at the front of out. Returns its length.
 pub fn write_remove(name: &[u8], context: &[u8], out: &mut [u8]) -> usize
-    requires { ⌜ (length (now name) ≤ 16) × WholeContext (now context) × (length (now name) + length (now context) + 8 ≤ length (now out)) ⌝ }
+    requires { ⌜ (length (now name) ≤ nameMost) × WholeContext (now context) × (length (now name) + length (now context) + removeFixed ≤ length (now out)) ⌝ }
     ensures { λ r. ⌜ Wrote (now (name .entry)) (remove (dotsOf (now (context .entry)))) (now (out .entry)) (now (out .exit)) r ⌝ }
 {
     let context_at = put_front(out, b'r', name);

@@ -3,7 +3,7 @@ ghost use mathlib.Core.Path.{_≡_};
 ghost use mathlib.Core.List.{_++_};
 ghost use Prim.Native.Nat.{_+_, _-_, _≤_};
 ghost use lib.ListN.{length, take, drop, replicate};
-ghost use Rattle.wire.specs.Bytes.{putAt, insertedAt, droppedAt};
+ghost use Rattle.wire.specs.Bytes.{putAt, insertedAt};
 
 // ---- writing and moving
 
@@ -69,22 +69,4 @@ pub fn insert_piece(s: &mut [u8], used: usize, at: usize, piece: &[u8])
 {
     let end = used + piece.len();
     insert_front(&mut s[at..end], piece);
-}
-
-// Drops the first n bytes of s; the others move down, and the freed bytes at the end become 0.
-fn drop_front(s: &mut [u8], n: usize)
-    requires { ⌜ n ≤ length (now s) ⌝ }
-    ensures { λ _. ⌜ now (s .exit) ≡ drop n (now (s .entry)) ++ replicate n 0 ⌝ }
-{
-    shift_down(s, n);
-    let kept = s.len() - n;
-    clear(&mut s[kept..]);
-}
-
-// Drops n bytes at a place of the first `used`; what follows them there moves down, the freed bytes become 0, and the rest keeps its values.
-pub fn drop_piece(s: &mut [u8], used: usize, at: usize, n: usize)
-    requires { ⌜ (at + n ≤ used) × (used ≤ length (now s)) ⌝ }
-    ensures { λ _. ⌜ now (s .exit) ≡ droppedAt (now (s .entry)) used at n ⌝ }
-{
-    drop_front(&mut s[at..used], n);
 }

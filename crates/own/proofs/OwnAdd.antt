@@ -1,7 +1,7 @@
 -- Own add: its refusals as the code groups them, and what its acceptance gives the code to go on with. Assumes nothing.
-use Prim.Native.Nat.{ℕ, _+_, _≤_}
+use Prim.Native.Nat.{ℕ, _*_, _+_, _≤_}
 use mathlib.Core.Path.{_≡_, refl, sym, ap, subst, _∙_}
-use mathlib.Core.Bool.{Bool, true, false}
+use mathlib.Core.Bool.{true, false}
 use mathlib.Core.List.{[], _∷_, _++_}
 use native.Mathlib.Omega.{arith}
 use lib.Dec.{eqb, ltb}
@@ -13,26 +13,27 @@ use Rattle.wire.proofs.Tests.{neither-left, neither-right}
 use Rattle.dots.specs.declared.Answer.{Answer}
 use Rattle.dots.specs.declared.Dot.{Dot}
 use Rattle.dots.specs.Answer.{numberOf, Refusals, firstOf}
-use Rattle.dots.specs.Dots.{maxCounter}
-use Rattle.dots.specs.Wire.{dotsOf}
+use Rattle.dots.specs.Dots.{maxCounter, contextMost}
+use Rattle.dots.specs.Wire.{dotsOf, dotSize}
 use Rattle.dots.specs.Entries.{entry}
 use Rattle.dots.specs.Message.{add}
 use Rattle.dots.proofs.Table.{NoneHolds, none-holds}
 use Rattle.clock.specs.Row.{windowWidth}
 use Rattle.clock.specs.Clock.{sees, rowAt}
 use Rattle.clock.proofs.Clocks.{rows-well}
-use Rattle.messages.specs.Message.{messageBytes}
+use Rattle.messages.specs.Message.{messageBytes, addFixed}
 use Rattle.messages.proofs.Lengths.{length-add}
 use Rattle.replica.specs.Machine.{ownAdd, ifUnseen, apply, effect}
 use Rattle.calls.specs.declared.State.{State}
 use Rattle.calls.specs.declared.Outcome.{Outcome}
-use Rattle.calls.specs.State.{clockModel, nameOf, view}
+use Rattle.calls.specs.State.{clockModel, nameOf, view, Sized}
 use Rattle.calls.specs.Damage.{damaged}
 use Rattle.calls.specs.Refusals.{badContext, hasDot, tooFar, tombstoneFull, storeFull, outputShort}
 use Rattle.calls.specs.Calls.{addWritten, ownAddRefusals, ownAddDone, ownAddResult}
 use Rattle.calls.specs.Promise.{Leaves}
-use Rattle.steps.specs.Tests.{stateOk, LowPart, ContextFits, ownNext, lateRefusals, addLate, MayOffer, applied}
-use Rattle.own.specs.Work.{Answers, addEarly, MayAdd, Added}
+use Rattle.steps.specs.Tests.{ContextFits, ownNext, lateRefusals, addLate, MayOffer, applied}
+use Rattle.judging.specs.Judging.{stateOk, LowPart}
+use Rattle.own.specs.Work.{addEarly, AddAnswers, MayAdd, Added}
 use Rattle.calls.proofs.Clauses.{Undamaged, undamaged, rows-ok, used-fits, store-fits}
 use Rattle.calls.proofs.Guard.{next-ok, next-unseen}
 use Rattle.store.specs.Valid.{storeMost}
@@ -41,10 +42,13 @@ use Rattle.steps.proofs.Adds.{name-length, store-full}
 use Rattle.dots.specs.declared.Answer.the-variants.{Done}
 use Rattle.messages.specs.Write.{Wrote}
 use Rattle.calls.specs.Effect.{stateOf, storeOf}
+use Rattle.dots.specs.Names.{labelMost, nameMost}
+use Rattle.keys.specs.Key.{labelKeyFixed}
+use Rattle.own.specs.declared.Lent.{Lent}
 
 -- how long the message is
-add-size : (st : State) (label context : Bytes) (d : Dot) → length (st .name .bytes) ≡ 16 → stateOk st ≡ true → ContextFits context
-    → length (messageBytes (nameOf st) (add label d (dotsOf context))) ≡ st .name .len + length label + length context + 18
+add-size : (st : State) (label context : Bytes) (d : Dot) → Sized st → stateOk st ≡ true → ContextFits context
+    → length (messageBytes (nameOf st) (add label d (dotsOf context))) ≡ st .name .len + length label + length context + addFixed
 add-size st label context d size ok fits =
     let named = name-length st size ok in
     let whole = fits .whole in
@@ -72,26 +76,26 @@ module _ (st : State) (store : Bytes) (u : Undamaged st store) where
   unfolding effect view
   applied-is label context = rw own-unseen
 
-module _ (st : State) (store label context : Bytes) (room : ℕ) (size : length (st .name .bytes) ≡ 16) where
-  abbrev late : Bytes → Refusals
-  late out =
-      lateRefusals (tooFar st store (ownNext st ∷ dotsOf context)) (tombstoneFull st store (ownAdd label (dotsOf context))) (storeFull st store (entry label (ownNext st) ∷ []))
-      (outputShort out (addWritten st store label context out))
+module _ (st : State) (label context : Bytes) (lent : Lent) (size : Sized st) (r : Answer) (k : ℕ) (answered : r ≡ firstOf (addEarly (lent .damage) (st .actor) (st .clock .words) label context)) (g : k ≡ numberOf r) where
+  module _ (store : Bytes) (told : lent .damage ≡ damaged st store) where
+    abbrev late : Bytes → Refusals
+    late out =
+        lateRefusals (tooFar st store (ownNext st ∷ dotsOf context)) (tombstoneFull st store (ownAdd label (dotsOf context))) (storeFull st store (entry label (ownNext st) ∷ []))
+        (outputShort out (addWritten st store label context out))
 
-  abbrev early : Refusals
-  early = addEarly (damaged st store) (st .actor) (st .clock .words) label context
+    abbrev early : Refusals
+    early = addEarly (damaged st store) (st .actor) (st .clock .words) label context
 
-  module _ (damage : Bool) (damage-is : damage ≡ damaged st store) (r : Answer) (k : ℕ) (answered : r ≡ firstOf (addEarly damage (st .actor) (st .clock .words) label context)) (g : k ≡ numberOf r) where
-    f : r ≡ firstOf early
-    f = answered ∙ rw damage-is
+    is-early : r ≡ firstOf early
+    is-early = answered ∙ rw told
 
-    pub add-refused : (k ≡ 0 → ⊥) → Answers room (ownAddRefusals st store label context) r
+    stopped : (k ≡ 0 → ⊥) → (out : Bytes) → r ≡ firstOf (ownAddRefusals st store label context out)
     unfolding view
-    add-refused t out e = stops early r k f g (late out) t
+    stopped t out = stops early r k is-early g (late out) t
 
     module _ (t : k ≡ 0) where
       passed : NoneHolds early
-      passed = none-of early r k f g (search needs) t
+      passed = none-of early r k is-early g (search needs) t
 
       u : Undamaged st store
       u = undamaged st store (passed .0)
@@ -113,45 +117,52 @@ module _ (st : State) (store label context : Bytes) (room : ℕ) (size : length 
             new = neither-right (badContext context) (hasDot (ownNext st) (dotsOf context)) (passed .1 .1 .0);
           }
 
-      pub add-passed : (d : Dot) (q : Answer) → d ≡ ownNext st → q ≡ firstOf (addLate st (length store) label d (dotsOf context) (ltb room (st .name .len + length label + length context + 18)))
-          → Answers room (ownAddRefusals st store label context) q
+      passed-on : (d : Dot) (q : Answer) (out : Bytes) → d ≡ ownNext st
+          → q ≡ firstOf (addLate st (length store) label d (dotsOf context) (ltb (length out) (st .name .len + length label + length context + addFixed))) → q ≡ firstOf (ownAddRefusals st store label context out)
       unfolding effect apply view
-      add-passed d q i h out e =
+      passed-on d q out i h =
           let full = ap (storeFull st store) (sym (fresh-is st store u label)) ∙ store-full st store label (ownNext st) (name-length st size (add-kept .state-ok)) in
-          passes early r k f g (late out) q (search needs) t
-          (h ∙ rw (i, e, full, add-size st label context (ownNext st) size (add-kept .state-ok) (add-kept .fits)))
+          passes early r k is-early g (late out) q (search needs) t
+          (h ∙ rw (i, full, add-size st label context (ownNext st) size (add-kept .state-ok) (add-kept .fits)))
+
+  pub add-refused : (k ≡ 0 → ⊥) → AddAnswers st label context lent r
+  add-refused t store out e f d = stopped store d t out
+
+  pub add-passed : k ≡ 0 → (d : Dot) (q : Answer) → d ≡ ownNext st
+      → q ≡ firstOf (addLate st (lent .store) label d (dotsOf context) (ltb (lent .out) (st .name .len + length label + length context + addFixed))) → AddAnswers st label context lent q
+  add-passed t d q i h store out e f w = passed-on store w t d q out i (rw (e, f) h)
 
 -- the sizes that the later refusals add up
 pub record Sizes (st : State) (label context : Bytes) : Type 0 where
-  pub name-most : st .name .len ≤ 16
-  pub label-most : length label ≤ 32
-  pub context-most : length context ≤ 144
+  pub name-most : st .name .len ≤ nameMost
+  pub label-most : length label ≤ labelMost
+  pub context-most : length context ≤ dotSize * contextMost
   pub used-most : st .used ≤ storeMost
 
 pub sizes : (st : State) (label context : Bytes) (d : Dot) → MayOffer st label context d → Sizes st label context
 sizes st label context d k = record { name-most = kept st (k .state-ok) .short; label-most = label-short label (k .labelled); context-most = k .fits .short; used-most = k .small }
 
-module _ (st : State) (store label context out : Bytes) (a : Answer) (k : ℕ) (answered : Answers (length out) (ownAddRefusals st store label context) a) (numbered : k ≡ numberOf a) where
+module _ (st : State) (store label context out : Bytes) (a : Answer) (k : ℕ) (answered : a ≡ firstOf (ownAddRefusals st store label context out)) (numbered : k ≡ numberOf a) where
   pub own-add-refused : (k ≡ 0 → ⊥) → Leaves (ownAddResult st store label context out) store out (record { answer = a; state = st; written = 0 })
   unfolding ownAddResult
-  own-add-refused h = leaves-refused st store out (ownAddRefusals st store label context out) (ownAddDone st store label context out) a k (answered out refl) numbered h
+  own-add-refused h = leaves-refused st store out (ownAddRefusals st store label context out) (ownAddDone st store label context out) a k answered numbered h
 
   module _ (z : k ≡ 0) where
     all-passed : NoneHolds (ownAddRefusals st store label context out)
-    all-passed = none-holds (ownAddRefusals st store label context out) (search needs) (sym (numbered ∙ ap numberOf (answered out refl)) ∙ z)
+    all-passed = none-holds (ownAddRefusals st store label context out) (search needs) (sym (numbered ∙ ap numberOf answered) ∙ z)
 
     pub add-whole : damaged st store ≡ false
     add-whole = all-passed .0
 
-    pub may-add : length (st .name .bytes) ≡ 16 → length (st .clock .words) ≡ 32 → (low : ℕ) → LowPart st store label low → MayAdd st store label context (length out) low
+    pub may-add : Sized st → (low : ℕ) → LowPart st store label low → MayAdd st store label context (length out) low
     unfolding effect apply view
-    may-add size words low front =
+    may-add size low front =
         let n = all-passed in
         let u = undamaged st store (n .0) in
         let ok = state-kept st store (n .0) in
         let fits = context-fits context (neither-left (badContext context) (hasDot (ownNext st) (dotsOf context)) (n .1 .1 .0)) in
         let full = sym (ap (storeFull st store) (sym (fresh-is st store u label)) ∙ store-full st store label (ownNext st) (name-length st size ok)) ∙ n .1 .1 .1 .1 .1 .1 .1 .0 in
-        let fills : ltb (length store) (st .used + (st .name .len + length label + 15)) ≡ false = rw (own-unseen st store u) at full in
+        let fills : ltb (length store) (st .used + (st .name .len + length label + labelKeyFixed)) ≡ false = rw (own-unseen st store u) at full in
         let room : length (addWritten st store label context out) ≤ length out = ltb-false _ _ (n .1 .1 .1 .1 .1 .1 .1 .1 .0) in
         record {
           next = next-fits st store u (n .1 .1 .1 .1 .0);
@@ -167,8 +178,7 @@ module _ (st : State) (store label context out : Bytes) (a : Answer) (k : ℕ) (
             };
             labelled = not-false _ (n .1 .0);
             room-for = λ f. ltb-false _ _ fills;
-            name-size = size;
-            words-size = words;
+            sized = size;
           };
           room-for = omega (arith, room, add-size st label context (ownNext st) size ok fits);
           front = front;
@@ -178,7 +188,7 @@ module _ (st : State) (store label context out : Bytes) (a : Answer) (k : ℕ) (
     unfolding ownAddResult view
     own-add-done store′ out′ r left =
         let is = applied-is st store (undamaged st store (all-passed .0)) label context in
-        leaves-done st store out (ownAddRefusals st store label context out) (ownAddDone st store label context out) a k (answered out refl) numbered z store′ out′ r
+        leaves-done st store out (ownAddRefusals st store label context out) (ownAddDone st store label context out) a k answered numbered z store′ out′ r
         (record {
           answered = left .answered;
           state-is = rw is at (left .state-is);

@@ -1,6 +1,6 @@
 -- Own remove: its refusals as the code groups them, and what its acceptance gives the code to go on with. Assumes nothing.
 use Prim.Native.Nat.{ℕ, _+_, _≤_}
-use mathlib.Core.Path.{_≡_, refl, sym, ap, _∙_}
+use mathlib.Core.Path.{_≡_, sym, ap, _∙_}
 use mathlib.Core.Bool.{true, false}
 use mathlib.Core.List.{_++_}
 use native.Mathlib.Omega.{arith}
@@ -16,27 +16,29 @@ use Rattle.dots.specs.Wire.{dotsOf}
 use Rattle.dots.specs.Message.{remove}
 use Rattle.dots.proofs.Table.{NoneHolds, none-holds}
 use Rattle.dots.proofs.Rules.{ascending-valid}
-use Rattle.messages.specs.Message.{messageBytes}
+use Rattle.messages.specs.Message.{messageBytes, removeFixed}
 use Rattle.messages.proofs.Lengths.{length-remove}
 use Rattle.replica.specs.Machine.{ownRemove, apply, effect}
 use Rattle.calls.specs.declared.State.{State}
 use Rattle.calls.specs.declared.Outcome.{Outcome}
-use Rattle.calls.specs.State.{nameOf, view}
+use Rattle.calls.specs.State.{nameOf, view, Sized}
 use Rattle.calls.specs.Damage.{damaged}
-use Rattle.calls.specs.Refusals.{badContext, ownAhead, tooFar, tombstoneFull, outputShort}
+use Rattle.calls.specs.Refusals.{tooFar, tombstoneFull, outputShort}
 use Rattle.calls.specs.Calls.{ownRemoveRefusals, removeWritten, ownRemoveDone, ownRemoveResult}
 use Rattle.calls.specs.Promise.{Leaves}
-use Rattle.steps.specs.Tests.{stateOk, ContextFits, earlyRefusals, lateRefusals, removeLate}
-use Rattle.own.specs.Work.{Answers, MayRemove, Removed}
+use Rattle.steps.specs.Tests.{ContextFits, lateRefusals, removeLate}
+use Rattle.judging.specs.Judging.{stateOk}
+use Rattle.own.specs.Work.{removeEarly, RemoveAnswers, MayRemove, Removed}
 use Rattle.calls.proofs.Clauses.{undamaged}
 use Rattle.steps.proofs.Performed.{removed-state, removed-store}
 use Rattle.steps.proofs.Answers.{stops, none-of, passes, leaves-refused, leaves-done, state-kept, dots-many, context-fits, kept}
+use Rattle.own.specs.declared.Lent.{Lent}
 
 -- ---- own remove
 
 -- how long the message is
-remove-size : (st : State) (context : Bytes) → length (st .name .bytes) ≡ 16 → stateOk st ≡ true → ContextFits context
-    → length (messageBytes (nameOf st) (remove (dotsOf context))) ≡ st .name .len + length context + 8
+remove-size : (st : State) (context : Bytes) → Sized st → stateOk st ≡ true → ContextFits context
+    → length (messageBytes (nameOf st) (remove (dotsOf context))) ≡ st .name .len + length context + removeFixed
 remove-size st context size ok fits =
     let short = kept st ok .short in
     let named : length (nameOf st) ≡ st .name .len = length-take-le (st .name .len) (st .name .bytes) (omega arith) in
@@ -44,40 +46,49 @@ remove-size st context size ok fits =
     let many = dots-many context in
     omega (arith, length-remove (nameOf st) (dotsOf context))
 
-module _ (st : State) (store context : Bytes) (room : ℕ) (size : length (st .name .bytes) ≡ 16) where
-  abbrev early : Refusals
-  early = earlyRefusals (damaged st store) false (badContext context) (ownAhead st store (dotsOf context)) false
+module _ (st : State) (context : Bytes) (lent : Lent) (size : Sized st) (r : Answer) (k : ℕ) (answered : r ≡ firstOf (removeEarly (lent .damage) (st .actor) (st .clock .words) context)) (g : k ≡ numberOf r) where
+  module _ (store : Bytes) (told : lent .damage ≡ damaged st store) where
+    abbrev early : Refusals
+    early = removeEarly (damaged st store) (st .actor) (st .clock .words) context
 
-  abbrev late : Bytes → Refusals
-  late out = lateRefusals (tooFar st store (dotsOf context)) (tombstoneFull st store (ownRemove (dotsOf context))) false (outputShort out (removeWritten st store context out))
+    abbrev late : Bytes → Refusals
+    late out = lateRefusals (tooFar st store (dotsOf context)) (tombstoneFull st store (ownRemove (dotsOf context))) false (outputShort out (removeWritten st store context out))
 
-  module _ (r : Answer) (k : ℕ) (f : r ≡ firstOf early) (g : k ≡ numberOf r) where
-    pub remove-refused : (k ≡ 0 → ⊥) → Answers room (ownRemoveRefusals st store context) r
-    remove-refused t out e = stops early r k f g (late out) t
+    is-early : r ≡ firstOf early
+    is-early = answered ∙ rw told
 
-    module _ (t : k ≡ 0) where
-      pub remove-kept : (stateOk st ≡ true) × ContextFits context
-      remove-kept =
-          let none = none-of early r k f g (search needs) t in
-          (state-kept st store (none .0), context-fits context (none .1 .1 .0))
+    pub remove-kept : k ≡ 0 → (stateOk st ≡ true) × ContextFits context
+    remove-kept t =
+        let none = none-of early r k is-early g (search needs) t in
+        (state-kept st store (none .0), context-fits context (none .1 .1 .0))
 
-      pub remove-passed : (q : Answer) → q ≡ firstOf (removeLate st (dotsOf context) (ltb room (st .name .len + length context + 8))) → Answers room (ownRemoveRefusals st store context) q
-      unfolding effect apply view
-      remove-passed q h out e =
-          passes early r k f g (late out) q (search needs) t (h ∙ rw (e, remove-size st context size (remove-kept .0) (remove-kept .1)))
+    stopped : (k ≡ 0 → ⊥) → (out : Bytes) → r ≡ firstOf (ownRemoveRefusals st store context out)
+    unfolding view
+    stopped t out = stops early r k is-early g (late out) t
 
-module _ (st : State) (store context out : Bytes) (a : Answer) (k : ℕ) (answered : Answers (length out) (ownRemoveRefusals st store context) a) (numbered : k ≡ numberOf a) where
+    passed-on : k ≡ 0 → (q : Answer) (out : Bytes) → q ≡ firstOf (removeLate st (dotsOf context) (ltb (length out) (st .name .len + length context + removeFixed))) → q ≡ firstOf (ownRemoveRefusals st store context out)
+    unfolding effect apply view
+    passed-on t q out h =
+        passes early r k is-early g (late out) q (search needs) t (h ∙ rw (remove-size st context size (remove-kept t .0) (remove-kept t .1)))
+
+  pub remove-refused : (k ≡ 0 → ⊥) → RemoveAnswers st context lent r
+  remove-refused t store out e f d = stopped store d t out
+
+  pub remove-passed : k ≡ 0 → (q : Answer) → q ≡ firstOf (removeLate st (dotsOf context) (ltb (lent .out) (st .name .len + length context + removeFixed))) → RemoveAnswers st context lent q
+  remove-passed t q h store out e f d = passed-on store d t q out (rw f h)
+
+module _ (st : State) (store context out : Bytes) (a : Answer) (k : ℕ) (answered : a ≡ firstOf (ownRemoveRefusals st store context out)) (numbered : k ≡ numberOf a) where
   pub own-remove-refused : (k ≡ 0 → ⊥) → Leaves (ownRemoveResult st store context out) store out (record { answer = a; state = st; written = 0 })
   unfolding ownRemoveResult
-  own-remove-refused h = leaves-refused st store out (ownRemoveRefusals st store context out) (ownRemoveDone st store context out) a k (answered out refl) numbered h
+  own-remove-refused h = leaves-refused st store out (ownRemoveRefusals st store context out) (ownRemoveDone st store context out) a k answered numbered h
 
   module _ (z : k ≡ 0) where
     passed-all : NoneHolds (ownRemoveRefusals st store context out)
-    passed-all = none-holds (ownRemoveRefusals st store context out) (search needs) (sym (numbered ∙ ap numberOf (answered out refl)) ∙ z)
+    passed-all = none-holds (ownRemoveRefusals st store context out) (search needs) (sym (numbered ∙ ap numberOf answered) ∙ z)
 
-    pub may-remove : length (st .name .bytes) ≡ 16 → length (st .clock .words) ≡ 32 → MayRemove st context (length out)
+    pub may-remove : Sized st → MayRemove st context (length out)
     unfolding effect apply view
-    may-remove size words =
+    may-remove size =
         let passed = passed-all in
         let ok = state-kept st store (passed .0) in
         let fits = context-fits context (passed .1 .0) in
@@ -87,20 +98,19 @@ module _ (st : State) (store context out : Bytes) (a : Answer) (k : ℕ) (answer
           fits = fits;
           close = not-false _ (passed .1 .1 .1 .0);
           few = ltb-false _ _ (passed .1 .1 .1 .1 .0);
-          name-size = size;
-          words-size = words;
+          sized = size;
           room-for = omega (arith, room, remove-size st context size ok fits);
         }
 
-    pub own-remove-done : length (st .name .bytes) ≡ 16 → (out′ : Bytes) (r : Outcome) → Removed st context out out′ r
+    pub own-remove-done : Sized st → (out′ : Bytes) (r : Outcome) → Removed st context out out′ r
         → Leaves (ownRemoveResult st store context out) store out′ r
     unfolding ownRemoveResult
     own-remove-done size out′ r left =
-        let words = left .words-size in
-        let may = may-remove size words in
+        let words = size .words-size in
+        let may = may-remove size in
         let u = undamaged st store (passed-all .0) in
         let ok = ascending-valid (dotsOf context) (may .fits .ascends) in
-        leaves-done st store out (ownRemoveRefusals st store context out) (ownRemoveDone st store context out) a k (answered out refl) numbered z store out′ r
+        leaves-done st store out (ownRemoveRefusals st store context out) (ownRemoveDone st store context out) a k answered numbered z store out′ r
         (record {
           answered = left .answered;
           state-is = left .state-is ∙ removed-state st store u words (dotsOf context) ok (may .close);

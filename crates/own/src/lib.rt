@@ -5,16 +5,26 @@ ghost use Prim.Native.Nat.{_+_, _≤_};
 ghost use lib.ListN.{length, take};
 ghost use Rattle.dots.specs.Answer.{firstOf};
 ghost use Rattle.dots.specs.Dots.{maxCounter, dotOf};
-ghost use Rattle.dots.specs.Wire.{dotsOf};
+ghost use Rattle.dots.specs.Wire.{dotsOf, tombstoneSize};
 ghost use Rattle.clock.specs.Clock.{rowAt};
 ghost use Rattle.dots.specs.Message.{add, remove};
 ghost use Rattle.messages.specs.Write.{WholeContext, Wrote};
 ghost use Rattle.calls.specs.Damage.{damaged as isDamaged};
-ghost use Rattle.steps.specs.Tests.{stateFrom, earlyRefusals};
-ghost use Rattle.own.specs.Work.{addEarly, Answers, MayAdd, Added, MayRemove, Removed};
+ghost use Rattle.steps.specs.Tests.{earlyRefusals};
+ghost use Rattle.calls.specs.State.{stateFrom};
+ghost use Rattle.own.specs.Work.{addEarly, removeEarly, Told, AddAnswers, RemoveAnswers, MayAdd, Added, MayRemove, Removed};
 ghost use Rattle.calls.specs.Refusals.{badContext, ownAhead};
 ghost use Rattle.calls.specs.Calls.{ownAddResult, ownRemoveResult, ownAddRefusals, ownRemoveRefusals};
 ghost use Rattle.calls.specs.Promise.{Leaves};
+ghost use Rattle.dots.specs.Names.{labelMost, nameMost};
+ghost use Rattle.messages.specs.Message.{addFixed, removeFixed};
+
+// The lengths of the store and of the output that are lent to a call, and whether refusal 1 holds.
+struct Lent {
+    store: usize,
+    out: usize,
+    damage: bool,
+}
 
 // ---- the messages
 
@@ -27,7 +37,7 @@ fn put_add(
     context: &[u8],
     out: &mut [u8],
 ) -> usize
-    requires { ⌜ (len ≤ 16) × (len ≤ length (now name)) × (length (now label) ≤ 32) × WholeContext (now context) × (len + length (now label) + length (now context) + 18 ≤ length (now out)) ⌝ }
+    requires { ⌜ (len ≤ nameMost) × (len ≤ length (now name)) × (length (now label) ≤ labelMost) × WholeContext (now context) × (len + length (now label) + length (now context) + addFixed ≤ length (now out)) ⌝ }
     ensures { λ r. ⌜ Wrote (take len (now (name .entry))) (add (now (label .entry)) dot (dotsOf (now (context .entry)))) (now (out .entry)) (now (out .exit)) r ⌝ }
 {
     messages::write_add(&name[..len], label, dot, context, out)
@@ -35,7 +45,7 @@ fn put_add(
 
 // Writes the remove message of a set whose name is the first len bytes.
 fn put_remove(name: &[u8], len: usize, context: &[u8], out: &mut [u8]) -> usize
-    requires { ⌜ (len ≤ 16) × (len ≤ length (now name)) × WholeContext (now context) × (len + length (now context) + 8 ≤ length (now out)) ⌝ }
+    requires { ⌜ (len ≤ nameMost) × (len ≤ length (now name)) × WholeContext (now context) × (len + length (now context) + removeFixed ≤ length (now out)) ⌝ }
     ensures { λ r. ⌜ Wrote (take len (now (name .entry))) (remove (dotsOf (now (context .entry)))) (now (out .entry)) (now (out .exit)) r ⌝ }
 {
     messages::write_remove(&name[..len], context, out)
@@ -44,7 +54,7 @@ fn put_remove(name: &[u8], len: usize, context: &[u8], out: &mut [u8]) -> usize
 // ---- own add
 
 // The dot that an own add takes.
-fn next_dot(own: dots::Actor, words: &[u64; 32]) -> dots::Dot
+fn next_dot(own: dots::Actor, words: &clock::Words) -> dots::Dot
     requires { ⌜ rowAt (now words) (own .number) .base + 1 ≤ maxCounter ⌝ }
     ensures { λ r. ⌜ r ≡ dotOf own (rowAt (now (words .entry)) (own .number) .base + 1) ⌝ }
 {
@@ -58,7 +68,7 @@ fn next_dot(own: dots::Actor, words: &[u64; 32]) -> dots::Dot
 // The refusals 1, 5, 6, 8 and 9 of an own add. `damage` is refusal 1.
 fn add_early(
     own: dots::Actor,
-    words: &[u64; 32],
+    words: &clock::Words,
     label: &[u8],
     context: &[u8],
     damage: bool,
@@ -73,32 +83,27 @@ fn add_early(
     steps::early_answer(damage, !named, bad | taken, ahead, base == u64::MAX)
 }
 
-// The answer of an own add, for an output of so many bytes. `damage` is refusal 1.
+// The answer of an own add.
 fn add_answer<'a>(
-    own: dots::Actor,
-    name: &'a [u8; 16],
-    len: usize,
-    words: &'a [u64; 32],
-    tombstone: &'a [u8; 1152],
-    count: usize,
-    used: usize,
-    store: &[u8],
+    head: calls::Head,
+    words: &'a clock::Words,
+    tombstone: &'a [u8; dots::TOMBSTONE_SIZE],
     label: &[u8],
     context: &[u8],
-    room: usize,
-    damage: bool,
+    lent: Lent,
 ) -> dots::Answer
-    requires { ⌜ (length (now name) ≡ 16) × (length (now tombstone) ≡ 1152) × (damage ≡ isDamaged (stateFrom own (now name) len (now words) (now tombstone) count used) (now store)) ⌝ }
-    ensures { λ r. ⌜ Answers room (ownAddRefusals (stateFrom own (now (name .entry)) len (now (words .entry)) (now (tombstone .entry)) count used) (now (store .entry)) (now (label .entry)) (now (context .entry))) r ⌝ }
+    requires { ⌜ Told (stateFrom head (now words) (now tombstone)) lent ⌝ }
+    ensures { λ r. ⌜ AddAnswers (stateFrom head (now (words .entry)) (now (tombstone .entry))) (now (label .entry)) (now (context .entry)) lent r ⌝ }
 {
-    let early = add_early(own, words, label, context, damage);
+    let own = head.actor;
+    let early = add_early(own, words, label, context, lent.damage);
     if dots::number_of(early) != 0 {
         return early;
     }
     let dot = next_dot(own, words);
-    let short = room < len + label.len() + context.len() + 18;
-    let crowded = store.len() < used + (len + label.len() + 15);
-    steps::add_late(words, tombstone, count, context, dot, crowded, short)
+    let short = lent.out < head.name.len + label.len() + context.len() + messages::ADD_FIXED;
+    let crowded = lent.store < head.used + (head.name.len + label.len() + keys::LABEL_KEY_FIXED);
+    steps::add_late(words, tombstone, head.count, context, dot, crowded, short)
 }
 
 // Writes the add message, and applies the add. The label's keys do not stand in the first `low` bytes.
@@ -129,7 +134,7 @@ fn add_done(
         state: calls::State {
             actor: actor,
             name: named,
-            clock: calls::Clock { words: words },
+            clock: clock::Clock { words: words },
             tombstone: calls::Tombstone {
                 bytes: bytes,
                 count: count,
@@ -150,30 +155,26 @@ pub fn own_add(
 ) -> calls::Outcome
     ensures { λ r. ⌜ Leaves (ownAddResult state (now (store .entry)) (now (label .entry)) (now (context .entry)) (now (out .entry))) (now (store .exit)) (now (out .exit)) r ⌝ }
 {
-    let found = steps::judge(
-        state.actor,
-        &state.name.bytes,
-        state.name.len,
+    let head = judging::head_of(state);
+    let judged = judging::judge(
+        head,
         &state.clock.words,
         &state.tombstone.bytes,
-        state.tombstone.count,
-        state.used,
         store,
         label,
     );
+    let lent = Lent {
+        store: store.len(),
+        out: out.len(),
+        damage: store::is_damage(judged),
+    };
     let answer = add_answer(
-        state.actor,
-        &state.name.bytes,
-        state.name.len,
+        head,
         &state.clock.words,
         &state.tombstone.bytes,
-        state.tombstone.count,
-        state.used,
-        store,
         label,
         context,
-        out.len(),
-        found == 0,
+        lent,
     );
     if dots::number_of(answer) != 0 {
         return calls::Outcome {
@@ -182,64 +183,43 @@ pub fn own_add(
             written: 0,
         };
     }
-    add_done(state, store, label, context, out, found - 1)
+    add_done(state, store, label, context, out, store::front_of(judged))
 }
 
 // ---- own remove
 
-// The refusals 1, 6 and 8 of an own remove.
-fn remove_early<'a>(
+// The refusals 1, 6 and 8 of an own remove. `damage` is refusal 1.
+fn remove_early(
     own: dots::Actor,
-    name: &'a [u8; 16],
-    len: usize,
-    words: &'a [u64; 32],
-    tombstone: &'a [u8; 1152],
-    count: usize,
-    used: usize,
-    store: &[u8],
+    words: &clock::Words,
     context: &[u8],
+    damage: bool,
 ) -> dots::Answer
-    ensures { λ r. ⌜ r ≡ firstOf (earlyRefusals (isDamaged (stateFrom own (now (name .entry)) len (now (words .entry)) (now (tombstone .entry)) count used) (now (store .entry))) false (badContext (now (context .entry))) (ownAhead (stateFrom own (now (name .entry)) len (now (words .entry)) (now (tombstone .entry)) count used) (now (store .entry)) (dotsOf (now (context .entry)))) false) ⌝ }
+    ensures { λ r. ⌜ r ≡ firstOf (removeEarly damage own (now (words .entry)) (now (context .entry))) ⌝ }
 {
     let base = steps::own_base(words, own);
-    let damage = steps::damaged(own, name, len, words, tombstone, count, used, store);
     let dot = steps::context_bad(context);
     let ahead = steps::own_ahead(own, base, context);
     steps::early_answer(damage, false, dot, ahead, false)
 }
 
-// The answer of an own remove, for an output of so many bytes.
+// The answer of an own remove.
 fn remove_answer<'a>(
-    own: dots::Actor,
-    name: &'a [u8; 16],
-    len: usize,
-    words: &'a [u64; 32],
-    tombstone: &'a [u8; 1152],
-    count: usize,
-    used: usize,
-    store: &[u8],
+    head: calls::Head,
+    words: &'a clock::Words,
+    tombstone: &'a [u8; dots::TOMBSTONE_SIZE],
     context: &[u8],
-    room: usize,
+    lent: Lent,
 ) -> dots::Answer
-    requires { ⌜ (length (now name) ≡ 16) × (length (now tombstone) ≡ 1152) ⌝ }
-    ensures { λ r. ⌜ Answers room (ownRemoveRefusals (stateFrom own (now (name .entry)) len (now (words .entry)) (now (tombstone .entry)) count used) (now (store .entry)) (now (context .entry))) r ⌝ }
+    requires { ⌜ Told (stateFrom head (now words) (now tombstone)) lent ⌝ }
+    ensures { λ r. ⌜ RemoveAnswers (stateFrom head (now (words .entry)) (now (tombstone .entry))) (now (context .entry)) lent r ⌝ }
 {
-    let early = remove_early(
-        own,
-        name,
-        len,
-        words,
-        tombstone,
-        count,
-        used,
-        store,
-        context,
-    );
+    let early = remove_early(head.actor, words, context, lent.damage);
     if dots::number_of(early) != 0 {
         return early;
     }
-    let short = room < len + context.len() + 8;
-    steps::remove_late(words, tombstone, count, context, short)
+    let short = lent.out < head.name.len + context.len() + messages::REMOVE_FIXED;
+    steps::remove_late(words, tombstone, head.count, context, short)
 }
 
 // Applies a context and writes the remove message.
@@ -261,7 +241,7 @@ fn remove_done(state: calls::State, context: &[u8], out: &mut [u8]) -> calls::Ou
         state: calls::State {
             actor: actor,
             name: named,
-            clock: calls::Clock { words: words },
+            clock: clock::Clock { words: words },
             tombstone: calls::Tombstone {
                 bytes: bytes,
                 count: count,
@@ -281,17 +261,19 @@ pub fn own_remove(
 ) -> calls::Outcome
     ensures { λ r. ⌜ Leaves (ownRemoveResult state (now (store .entry)) (now (context .entry)) (now (out .entry))) (now (store .entry)) (now (out .exit)) r ⌝ }
 {
+    let head = judging::head_of(state);
+    let damage = judging::damaged(head, &state.clock.words, &state.tombstone.bytes, store);
+    let lent = Lent {
+        store: store.len(),
+        out: out.len(),
+        damage: damage,
+    };
     let answer = remove_answer(
-        state.actor,
-        &state.name.bytes,
-        state.name.len,
+        head,
         &state.clock.words,
         &state.tombstone.bytes,
-        state.tombstone.count,
-        state.used,
-        store,
         context,
-        out.len(),
+        lent,
     );
     if dots::number_of(answer) != 0 {
         return calls::Outcome {

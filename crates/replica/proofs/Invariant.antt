@@ -2,7 +2,7 @@
 use mathlib.Core.Path.{_≡_, refl, sym, _∙_, ap, subst}
 use mathlib.Core.Logic.{_⊎_, inl, inr, ⊎-elim, ⊎-map}
 use mathlib.Core.Bool.{Bool, true, false, not, cond}
-use mathlib.Core.List.{List, [], _∷_, _++_, map, flatMap, List·Memᴰ·head, List·Memᴰ·not-nil, List·Memᴰ·eq-of-singleton, List·Memᴰ·append-cases, Memᴰ·append-left, Memᴰ·append-right, Memᴰ·cast, Memᴰ·map, Memᴰ·of-map}
+use mathlib.Core.List.{List, [], _∷_, _++_, map, flatMap, List·Memᴰ·head, List·Memᴰ·tail, List·Memᴰ·not-nil, List·Memᴰ·eq-of-singleton, List·Memᴰ·append-cases, Memᴰ·append-left, Memᴰ·append-right, Memᴰ·cast, Memᴰ·map, Memᴰ·of-map}
 use Prim.Native.Nat.{ℕ, _+_, _≤_, _<_}
 use native.Mathlib.Omega.{arith}
 use lib.Dec.{T, T-not, isEq, leb, leb→le, ltb, ltb→lt, nltb→le}
@@ -14,11 +14,14 @@ use Rattle.dots.specs.Dots.{Context, dotOf, compareActors, compareDots}
 use Rattle.dots.specs.Entries.{Entry, entry, entryDot, compareEntries}
 use Rattle.dots.specs.Message.{Message, add, remove, contextOf, pairsOf}
 use Rattle.wire.proofs.Tests.{decide, pass, T-both, T-and}
-use Rattle.wire.proofs.Lists.{keep-member, member-keep, any-member, member-sound, not-member, insertAll-member, member-insertAll, ascending-insertAll, ascending-keep}
+use Rattle.wire.proofs.Lists.{keep-member, member-keep, any-member, not-member, insertAll-member, member-insertAll, ascending-insertAll}
 use Rattle.dots.proofs.Orders.{actors, dots, entries}
 use Rattle.replica.specs.Clock.{ClockModel, ClockLaws}
-use Rattle.replica.specs.Machine.{Call, ownAdd, ownRemove, takeIn, list, lookup, compact, messagesOf, State, setUp, seen, unseen, ownBase, nextDot, ifUnseen, joining, apply, live, dead, droppedDots, compacted, effect, aboveOwnBase, mayApply, mayAdd, allowed}
+use Rattle.replica.specs.Machine.{Call, ownAdd, ownRemove, takeIn, reads, compact, messagesOf, State, setUp, seen, unseen, ownBase, nextDot, ifUnseen, joining, apply, compacted, effect, aboveOwnBase, mayApply, mayAdd, allowed}
 use Rattle.replica.specs.Rule.{History, noHistory, countOwnAdd, noted, pairs, removed, Paired, OneLabelPerDot}
+use Rattle.replica.specs.Shrinking.{shrunk, Shrinks}
+use Rattle.replica.proofs.Listings.{fewer}
+use Rattle.replica.proofs.Shrinking.{compaction-shrinks}
 
 module _ (C : ClockModel) (L : ClockLaws C) where
   pub record Invariant (a : Actor) (s : State C) (h : History) : Type 0 where
@@ -29,9 +32,9 @@ module _ (C : ClockModel) (L : ClockLaws C) where
     -- the clock sees just the dots in either set
     pub seen-named : (d : Dot) → T (seen C s d) → Paired (h .messages) d ⊎ (d ∈ removed (h .messages))
     pub named-seen : (d : Dot) → Paired (h .messages) d ⊎ (d ∈ removed (h .messages)) → T (seen C s d)
-    -- the keys are pairs, and a pair that is not removed has its key
+    -- the keys are pairs, and a pair that is not removed has its key: this field alone needs the proviso
     pub key-paired : (e : Entry) → e ∈ s .keys → e ∈ pairs (h .messages)
-    pub live-stored : (e : Entry) → e ∈ pairs (h .messages) → (e .dot ∈ removed (h .messages) → ⊥) → e ∈ s .keys
+    pub live-stored : OneLabelPerDot (pairs (h .messages)) → (e : Entry) → e ∈ pairs (h .messages) → (e .dot ∈ removed (h .messages) → ⊥) → e ∈ s .keys
     -- a removed key is in the tombstone, and what is there is removed
     pub dead-tombstoned : (e : Entry) → e ∈ s .keys → e .dot ∈ removed (h .messages) → e .dot ∈ s .tombstone
     pub tombstoned-removed : (d : Dot) → d ∈ s .tombstone → d ∈ removed (h .messages)
@@ -49,7 +52,7 @@ module _ (C : ClockModel) (L : ClockLaws C) where
     seen-named = λ d t. absurd (L .zero-unseen d t);
     named-seen = λ d. ⊎-elim (λ p. absurd (List·Memᴰ·not-nil (p .1))) (λ m. absurd (List·Memᴰ·not-nil m));
     key-paired = λ e m. m;
-    live-stored = λ e m n. m;
+    live-stored = λ single e m n. m;
     dead-tombstoned = λ e m n. n;
     tombstoned-removed = λ d m. m;
     own-seen = λ n k. absurd (omega arith);
@@ -86,7 +89,7 @@ module _ (C : ClockModel) (L : ClockLaws C) where
     own-offered : (n : ℕ) → dotOf (s .actor) n ∈ joining C s fresh (contextOf m) → n ≤ count
 
   module _ {a : Actor} {s : State C} {h : History} (inv : Invariant a s h) {m : Message} {fresh : List Entry} {count : ℕ}
-      (ok : Absorbable s h m fresh count) (single : OneLabelPerDot (pairs (m ∷ h .messages))) where
+      (ok : Absorbable s h m fresh count) where
     abbrev ms : List Message
     ms = h .messages
 
@@ -147,12 +150,12 @@ module _ (C : ClockModel) (L : ClockLaws C) where
         ⊎-elim (λ f. Memᴰ·append-left (pairs ms) (ok .fresh-paired e f)) (λ o. Memᴰ·append-right (pairsOf m) (inv .key-paired e o))
         (insertAll-member compareEntries entries fresh (s .keys) k)
 
-    after-live-stored : (e : Entry) → e ∈ pairs (m ∷ ms) → (e .dot ∈ removed (m ∷ ms) → ⊥) → e ∈ after .keys
+    after-live-stored : OneLabelPerDot (pairs (m ∷ ms)) → (e : Entry) → e ∈ pairs (m ∷ ms) → (e .dot ∈ removed (m ∷ ms) → ⊥) → e ∈ after .keys
     unfolding apply flatMap
-    after-live-stored e k live = member-insertAll compareEntries entries fresh (s .keys) (by-age (List·Memᴰ·append-cases (pairsOf m) k))
+    after-live-stored single e k live = member-insertAll compareEntries entries fresh (s .keys) (by-age (List·Memᴰ·append-cases (pairsOf m) k))
       where
         stored : e ∈ pairs ms → e ∈ s .keys
-        stored o = inv .live-stored e o (λ r. live (Memᴰ·append-right (contextOf m) r))
+        stored o = inv .live-stored (fewer {ms = ms} {ms′ = m ∷ ms} (λ x. List·Memᴰ·tail) single) e o (λ r. live (Memᴰ·append-right (contextOf m) r))
 
         -- an add already seen: its dot has a pair, which by `single` is this one
         repeated : Paired ms (e .dot) ⊎ (e .dot ∈ removed ms) → e ∈ s .keys
@@ -203,54 +206,26 @@ module _ (C : ClockModel) (L : ClockLaws C) where
       own-bounded = after-own-bounded;
     }
 
-  -- fewer keys and a smaller tombstone: only keys whose dots are in the tombstone go, and no kept key's dot leaves it
-  pub record Shrinks (s : State C) (keys : List Entry) (tombstone : List Dot) : Type 0 where
-    pub keys-up : Ascending compareEntries keys
-    pub tombstone-up : Ascending compareDots tombstone
-    pub key-old : (e : Entry) → e ∈ keys → e ∈ s .keys
-    pub dot-old : (d : Dot) → d ∈ tombstone → d ∈ s .tombstone
-    pub dropped-buried : (e : Entry) → e ∈ s .keys → (e ∈ keys) ⊎ (e .dot ∈ s .tombstone)
-    pub kept-buried : (e : Entry) → e ∈ keys → e .dot ∈ s .tombstone → e .dot ∈ tombstone
-
-  pub shrinking-keeps : {a : Actor} {s : State C} {h : History} {keys : List Entry} {tombstone : List Dot} → Invariant a s h → Shrinks s keys tombstone
-      → Invariant a (record { actor = s .actor; clock = s .clock; tombstone = tombstone; keys = keys }) h
+  pub shrinking-keeps : {a : Actor} {s : State C} {h : History} {keys : List Entry} {tombstone : List Dot} → Invariant a s h → Shrinks C s keys tombstone
+      → Invariant a (shrunk C s keys tombstone) h
   shrinking-keeps inv less = record {
     actor-is = inv .actor-is;
     well = inv .well;
-    tombstone-ascends = less .tombstone-up;
-    keys-ascend = less .keys-up;
+    tombstone-ascends = less .tombstone-ascends (inv .tombstone-ascends);
+    keys-ascend = less .keys-ascend (inv .keys-ascend);
     seen-named = inv .seen-named;
     named-seen = inv .named-seen;
     key-paired = λ e k. inv .key-paired e (less .key-old e k);
-    live-stored = λ e p live. ⊎-elim (λ k. k) (λ b. absurd (live (inv .tombstoned-removed (e .dot) b))) (less .dropped-buried e (inv .live-stored e p live));
-    dead-tombstoned = λ e k r. less .kept-buried e k (inv .dead-tombstoned e (less .key-old e k) r);
+    live-stored = λ single e p live. ⊎-elim (λ k. k) (λ b. absurd (live (inv .tombstoned-removed (e .dot) b))) (less .dropped-tombstoned e (inv .live-stored single e p live));
+    dead-tombstoned = λ e k r. less .kept-tombstoned e k (inv .dead-tombstoned e (less .key-old e k) r);
     tombstoned-removed = λ d k. inv .tombstoned-removed d (less .dot-old d k);
     own-seen = inv .own-seen;
     own-bounded = inv .own-bounded;
   }
 
-  compaction-shrinks : {a : Actor} {s : State C} {h : History} → Invariant a s h → Shrinks s ((compacted C s) .keys) ((compacted C s) .tombstone)
-  unfolding compacted
-  compaction-shrinks {s = s} inv = record {
-    keys-up = ascending-keep compareEntries entries (live C s) (s .keys) (inv .keys-ascend);
-    tombstone-up = ascending-keep compareDots dots kept (s .tombstone) (inv .tombstone-ascends);
-    key-old = λ e k. (keep-member (live C s) (s .keys) k) .0;
-    dot-old = λ d k. (keep-member kept (s .tombstone) k) .0;
-    dropped-buried = λ e k. by-tombstone e k (decide (dead C s e));
-    -- no live key is in the tombstone
-    kept-buried = λ e k b. absurd (not-member compareDots dots (s .tombstone) ((keep-member (live C s) (s .keys) k) .1) b);
-  }
-    where
-      kept : Dot → Bool
-      kept d = not (member compareDots d (droppedDots C s))
-
-      by-tombstone : (e : Entry) → e ∈ s .keys → T (dead C s e) ⊎ T (live C s e) → (e ∈ keep (live C s) (s .keys)) ⊎ (e .dot ∈ s .tombstone)
-      by-tombstone e k (inl t) = inr (member-sound compareDots dots (s .tombstone) t)
-      by-tombstone e k (inr t) = inl (member-keep (live C s) (s .keys) k t)
-
   compaction-keeps : {a : Actor} {s : State C} {h : History} → Invariant a s h → Invariant a (compacted C s) h
   unfolding compacted
-  compaction-keeps inv = shrinking-keeps inv (compaction-shrinks inv)
+  compaction-keeps {s = s} inv = shrinking-keeps inv (compaction-shrinks C s)
 
   module _ {a : Actor} {s : State C} {h : History} (inv : Invariant a s h) where
     -- refusal 8
@@ -341,14 +316,13 @@ module _ (C : ClockModel) (L : ClockLaws C) where
             omega arith
 
     -- every accepted call keeps the invariant
-    pub call-keeps : (c : Call) → T (allowed C s c) → OneLabelPerDot (pairs ((noted a h c) .messages)) → Invariant a (effect C s c) (noted a h c)
+    pub call-keeps : (c : Call) → T (allowed C s c) → Invariant a (effect C s c) (noted a h c)
     unfolding effect allowed messagesOf countOwnAdd
-    call-keeps (ownAdd l context) may single =
+    call-keeps (ownAdd l context) may =
         subst (λ (d : Dot). Invariant a (apply C s (entry l (nextDot C s) ∷ []) context) (record { ownAdds = h .ownAdds + 1; messages = add l d context ∷ h .messages })) (next-dot inv)
-        (applied inv (own-addition l context may) (subst (λ (d : Dot). OneLabelPerDot (pairs (add l d context ∷ h .messages))) (sym (next-dot inv)) single))
-    call-keeps (ownRemove context) may single = applied inv (removal context may) single
-    call-keeps (takeIn (add l d context)) may single = applied inv (addition l d context may) single
-    call-keeps (takeIn (remove context)) may single = applied inv (removal context may) single
-    call-keeps list may single = inv
-    call-keeps (lookup l) may single = inv
-    call-keeps compact may single = compaction-keeps inv
+        (applied inv (own-addition l context may))
+    call-keeps (ownRemove context) may = applied inv (removal context may)
+    call-keeps (takeIn (add l d context)) may = applied inv (addition l d context may)
+    call-keeps (takeIn (remove context)) may = applied inv (removal context may)
+    call-keeps reads may = inv
+    call-keeps compact may = compaction-keeps inv

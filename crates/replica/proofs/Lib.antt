@@ -1,7 +1,8 @@
--- Invariant: what ties a state to the rule's sets, and that every accepted call keeps it. Listings: the rule's listing. Theorems: demand 3.
--- RowClock: demand 3 over the clock of 16 rows. Cases: the settled cases, and the machine as a controller.
+-- Shrinking: dropping keys leaves the listing. Invariant: what ties a state to the rule's sets, and that every accepted call keeps it. Listings: the rule's listing. Theorems: demand 3.
+-- RowClock: demand 3 over the clock of 16 rows. Instance: the machine as a controller.
+pub mod Shrinking
 pub mod Invariant
 pub mod Listings
 pub mod Theorems
 pub mod RowClock
-pub mod Cases
+pub mod Instance

@@ -11,7 +11,7 @@ use Rattle.dots.specs.Message.{Message, contextOf, pairsOf}
 use Rattle.wire.proofs.Lists.{keep-member, member-keep, flatMap-mono, member-sound, not-member, insertAll-member, member-insertAll, ascending-insertAll, ascending-unique}
 use Rattle.dots.proofs.Orders.{dots, entries}
 use Rattle.dots.proofs.Lines.{entries-lines, lines-ascend, lines-filled}
-use Rattle.replica.specs.Rule.{pairs, removed, Paired, kept, livePairs, ruleListing, IsListing}
+use Rattle.replica.specs.Rule.{pairs, removed, Paired, kept, livePairs, ruleListing, IsListing, OneLabelPerDot}
 
 -- a pair is live exactly if it is not removed
 pub live-pair : (ms : List Message) (e : Entry) → e ∈ pairs ms → (e .dot ∈ removed ms → ⊥) → e ∈ livePairs ms
@@ -33,6 +33,10 @@ live-pairs-are ms es up sound complete =
     ascending-unique compareEntries entries es (livePairs ms) up (ascending-insertAll compareEntries entries (keep (kept ms) (pairs ms)) [] tt)
     (λ e m. let w = sound e m in live-pair ms e (w .0) (w .1))
     (λ e m. let w = pair-live ms e m in complete e (w .0) (w .1))
+
+-- what holds of the pairs of more messages holds of those of fewer
+pub fewer : {ms ms′ : List Message} → ((m : Message) → m ∈ ms → m ∈ ms′) → OneLabelPerDot (pairs ms′) → OneLabelPerDot (pairs ms)
+fewer {ms} {ms′} sub single d l l′ p q = single d l l′ (flatMap-mono pairsOf sub _ p) (flatMap-mono pairsOf sub _ q)
 
 module _ {ms ms′ : List Message} (same : SameMembers ms ms′) where
   pub same-pairs : SameMembers (pairs ms) (pairs ms′)
@@ -61,6 +65,3 @@ is-listing ms = record {
   labels-ascend = lines-ascend (livePairs ms) (ascending-insertAll compareEntries entries (keep (kept ms) (pairs ms)) [] tt);
   some-dot = lines-filled (livePairs ms);
 }
-
--- for a listing written from left to right, one label after the other: the linesOf of one label
--- and the linesOf of entries that share no label with those after them

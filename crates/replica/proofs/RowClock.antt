@@ -11,7 +11,7 @@ use Rattle.wire.proofs.Tests.{both-ways, pass, fail, holds}
 use Rattle.dots.specs.declared.Dot.{Dot}
 use Rattle.dots.specs.Dots.{actorOf, dotOf, compareDots}
 use Rattle.clock.specs.Row.{Row, windowWidth, seen}
-use Rattle.clock.specs.Clock.{rowAt, sees, joinAll}
+use Rattle.clock.specs.Clock.{rowAt, sees, joinAll, clockWords}
 use Rattle.clock.proofs.Rows.{seen-low, next-unseen, one-form}
 use Rattle.clock.proofs.Clocks.{Formed, row-empty, rows-eq, zero-formed, zero-unseen as zero-row-unseen, joinEach-formed, sorted-ready, join-sees}
 use Rattle.replica.specs.Clock.{ClockModel, ClockLaws}
@@ -24,7 +24,7 @@ unfoldable pub rowClockLaws : (W : ℕ) → 1 ≤ W → ClockLaws (rowClock W)
 unfolding sees joinAll
 rowClockLaws W w = record {
   WellFormed = Formed W;
-  zero-well = record { size = length-replicate {A = ℕ} 32 0; rows = λ a. rw (row-empty a) (zero-formed W) };
+  zero-well = record { size = length-replicate {A = ℕ} clockWords 0; rows = λ a. rw (row-empty a) (zero-formed W) };
   zero-unseen = λ d t. fail (ap (λ (r : Row). seen r (d .counter .number)) (row-empty (d .actor .number)) ∙ zero-row-unseen (d .counter .number)) t;
   join-well = λ words ds f t. joinEach-formed W words (sort compareDots ds) (sorted-ready W w words ds f t);
   join-sees = λ words ds f t d. join-sees W w words ds f t d;

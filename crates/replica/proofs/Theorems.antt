@@ -2,58 +2,30 @@
 use mathlib.Core.Path.{_≡_, refl, sym, _∙_, ap, subst}
 use mathlib.Core.Logic.{_↔_, _⊎_, inl, inr, ⊎-elim, ⊎-map}
 use mathlib.Core.Bool.{Bool, true, false, cond}
-use mathlib.Core.List.{List, [], _∷_, List·Memᴰ·not-nil, Memᴰ·append-left, Memᴰ·append-right, Memᴰ·cast}
-use Prim.Native.Nat.{_+_}
+use mathlib.Core.List.{List, [], _∷_, _++_, List·Memᴰ·not-nil, Memᴰ·append-left, Memᴰ·append-right, Memᴰ·cast}
 use lib.Dec.{T, not-T, isEq, eqb, eqb→eq}
 use Rattle.wire.specs.Lists.{_∈_, SameMembers, any, member}
 use Rattle.wire.specs.Bytes.{compareBytes}
 use Rattle.dots.specs.declared.Actor.{Actor}
 use Rattle.dots.specs.declared.Dot.{Dot}
 use Rattle.dots.specs.Names.{Label}
-use Rattle.dots.specs.Dots.{dotOf, compareDots}
+use Rattle.dots.specs.Dots.{compareDots}
 use Rattle.dots.specs.Entries.{Entry, compareEntries, linesOf, lineLabels}
-use Rattle.dots.specs.Message.{Message, pairsOf}
+use Rattle.dots.specs.Message.{Message}
 use Rattle.wire.proofs.Tests.{pass, fail}
-use Rattle.wire.proofs.Lists.{tie-is, member-append, keep-member, member-keep, any-member, any-found, flatMap-mono, member-sound, not-member, ascending-keep}
+use Rattle.wire.proofs.Lists.{tie-is, member-append, keep-member, member-keep, any-member, any-found, member-sound, not-member, ascending-keep}
 use Rattle.wire.proofs.Orders.{bytesLawful}
 use Rattle.dots.proofs.Orders.{dots, entries}
 use Rattle.dots.proofs.Lines.{label-of-line, line-of-label}
 use Rattle.replica.specs.Clock.{ClockModel, ClockLaws}
-use Rattle.replica.specs.Machine.{messagesOf, State, setUp, live, liveKeys, compacted, listing, found, effect, Controller}
-use Rattle.replica.specs.Rule.{Event, History, noHistory, noted, historyFrom, pairs, removed, livePairs, ruleListing, OneLabelPerDot}
-use Rattle.replica.specs.Demand3.{accepts, run, events, traffic, Compacts, accepted, FollowsTheRule, ReplicasAgree}
+use Rattle.replica.specs.Machine.{messagesOf, State, live, liveKeys, compacted, listing, found, effect, Controller}
+use Rattle.replica.specs.Rule.{History, noHistory, noted, historyFrom, pairs, removed, livePairs, ruleListing, OneLabelPerDot}
+use Rattle.replica.specs.Demand3.{accepts, run, events, traffic, Compacts, Life, endOf, accepted, trafficOf, FollowsTheRule, ReplicasAgree}
 use Rattle.replica.proofs.Invariant.{Invariant, at-start, next-dot, call-keeps}
-use Rattle.replica.proofs.Listings.{is-listing, live-pairs-are, same-named, same-live}
+use Rattle.replica.proofs.Listings.{fewer, is-listing, live-pairs-are, same-named, same-live}
 
--- what holds of the pairs of more messages holds of those of fewer
-fewer : {ms ms′ : List Message} → ((m : Message) → m ∈ ms → m ∈ ms′) → OneLabelPerDot (pairs ms′) → OneLabelPerDot (pairs ms)
-fewer {ms} {ms′} sub single d l l′ p q = single d l l′ (flatMap-mono pairsOf sub _ p) (flatMap-mono pairsOf sub _ q)
-
--- a history only grows
-grows : (a : Actor) (h : History) (es : List Event) (m : Message) → m ∈ h .messages → m ∈ (historyFrom a h es) .messages
-unfolding historyFrom
-grows a h [] m k = k
-grows a h (e ∷ es) m k = grows a (cond (e .accepted) (noted a h (e .call)) h) es m (step (e .accepted))
-  where
-    step : (b : Bool) → m ∈ (cond b (noted a h (e .call)) h) .messages
-    step true = Memᴰ·append-right (messagesOf (dotOf a (h .ownAdds + 1)) (e .call)) k
-    step false = k
-
--- what an invariant says of a state
-module _ (C : ClockModel) (L : ClockLaws C) {a : Actor} {s : State C} {h : History} (inv : Invariant C L a s h) where
-  pub live-keys : liveKeys C s ≡ livePairs (h .messages)
-  live-keys = live-pairs-are (h .messages) (liveKeys C s) (ascending-keep compareEntries entries (live C s) (s .keys) (inv .keys-ascend)) sound complete
-    where
-      sound : (e : Entry) → e ∈ liveKeys C s → (e ∈ pairs (h .messages)) × (e .dot ∈ removed (h .messages) → ⊥)
-      sound e k =
-          let w = keep-member (live C s) (s .keys) k in
-          (inv .key-paired e (w .0), λ r. not-member compareDots dots (s .tombstone) (w .1) (inv .dead-tombstoned e (w .0) r))
-
-      complete : (e : Entry) → e ∈ pairs (h .messages) → (e .dot ∈ removed (h .messages) → ⊥) → e ∈ liveKeys C s
-      complete e p n =
-          member-keep (live C s) (s .keys) (inv .live-stored e p n)
-          (not-T (member compareDots (e .dot) (s .tombstone)) (λ t. n (inv .tombstoned-removed (e .dot) (member-sound compareDots dots (s .tombstone) t))))
-
+-- lookup says yes exactly if the listing has the label, in any state
+module _ (C : ClockModel) (s : State C) where
   pub found-label : (l : Label) → T (found C s l) ↔ (l ∈ lineLabels (linesOf (liveKeys C s)))
   unfolding found
   found-label l = (to, from)
@@ -72,11 +44,28 @@ module _ (C : ClockModel) (L : ClockLaws C) {a : Actor} {s : State C} {h : Histo
           let w = label-of-line l (liveKeys C s) k in
           any-member test (liveKeys C s) (w .1) (pass (ap isEq (ap (compareBytes l) (sym (w .2)) ∙ bytesLawful .self l)))
 
+-- what an invariant says of a state
+module _ (C : ClockModel) (L : ClockLaws C) {a : Actor} {s : State C} {h : History} (inv : Invariant C L a s h) where
+  -- a live key was added and not removed
+  pub live-sound : (e : Entry) → e ∈ liveKeys C s → (e ∈ pairs (h .messages)) × (e .dot ∈ removed (h .messages) → ⊥)
+  live-sound e k =
+      let w = keep-member (live C s) (s .keys) k in
+      (inv .key-paired e (w .0), λ r. not-member compareDots dots (s .tombstone) (w .1) (inv .dead-tombstoned e (w .0) r))
+
+  -- with the proviso, every pair not removed is live
+  pub live-keys : OneLabelPerDot (pairs (h .messages)) → liveKeys C s ≡ livePairs (h .messages)
+  live-keys single = live-pairs-are (h .messages) (liveKeys C s) (ascending-keep compareEntries entries (live C s) (s .keys) (inv .keys-ascend)) live-sound complete
+    where
+      complete : (e : Entry) → e ∈ pairs (h .messages) → (e .dot ∈ removed (h .messages) → ⊥) → e ∈ liveKeys C s
+      complete e p n =
+          member-keep (live C s) (s .keys) (inv .live-stored single e p n)
+          (not-T (member compareDots (e .dot) (s .tombstone)) (λ t. n (inv .tombstoned-removed (e .dot) (member-sound compareDots dots (s .tombstone) t))))
+
 -- two states that stand for the same messages have the same live keys and the same clock
 module _ (C : ClockModel) (L : ClockLaws C) {a b : Actor} {s t : State C} {h k : History} (inv : Invariant C L a s h) (inv′ : Invariant C L b t k)
     (same : SameMembers (h .messages) (k .messages)) where
-  pub equal-live-keys : liveKeys C s ≡ liveKeys C t
-  equal-live-keys = live-keys C L inv ∙ same-live same ∙ sym (live-keys C L inv′)
+  pub equal-live-keys : OneLabelPerDot (pairs (h .messages)) → OneLabelPerDot (pairs (k .messages)) → liveKeys C s ≡ liveKeys C t
+  equal-live-keys one two = live-keys C L inv one ∙ same-live same ∙ sym (live-keys C L inv′ two)
 
   pub equal-clocks : s .clock ≡ t .clock
   equal-clocks = L .one-form (s .clock) (t .clock) (inv .well) (inv′ .well)
@@ -87,23 +76,20 @@ module _ (C : ClockModel) (L : ClockLaws C) (K : Controller C) where
   abbrev after : Actor → K .Held → History → K .Input → History
   after a x h i = cond (accepts C K x i) (noted a h (K .callOf i)) h
 
-  step-keeps : {a : Actor} {x : K .Held} {h : History} → Invariant C L a (K .view x) h → (i : K .Input)
-      → OneLabelPerDot (pairs ((after a x h i) .messages)) → Invariant C L a (K .view (K .step x i)) (after a x h i)
-  step-keeps {a} {x} {h} inv i single = by-answer (accepts C K x i) refl single
+  step-keeps : {a : Actor} {x : K .Held} {h : History} → Invariant C L a (K .view x) h → (i : K .Input) → Invariant C L a (K .view (K .step x i)) (after a x h i)
+  step-keeps {a} {x} {h} inv i = by-answer (accepts C K x i) refl
     where
-      by-answer : (b : Bool) → accepts C K x i ≡ b → OneLabelPerDot (pairs ((cond b (noted a h (K .callOf i)) h) .messages))
-          → Invariant C L a (K .view (K .step x i)) (cond b (noted a h (K .callOf i)) h)
-      by-answer true e one =
+      by-answer : (b : Bool) → accepts C K x i ≡ b → Invariant C L a (K .view (K .step x i)) (cond b (noted a h (K .callOf i)) h)
+      by-answer true e =
           let done = eqb→eq (K .answer x i) 0 (pass e) in
-          rw (K .does x i done) (call-keeps C L inv (K .callOf i) (K .guarded x i done) one)
-      by-answer false e one = rw (K .refuses x i (λ z. fail e (subst (λ n. T (eqb n 0)) (sym z) tt))) inv
+          rw (K .does x i done) (call-keeps C L inv (K .callOf i) (K .guarded x i done))
+      by-answer false e = rw (K .refuses x i (λ z. fail e (subst (λ n. T (eqb n 0)) (sym z) tt))) inv
 
   run-keeps : {a : Actor} {x : K .Held} {h : History} → Invariant C L a (K .view x) h → (is : List (K .Input))
-      → OneLabelPerDot (pairs ((historyFrom a h (events C K x is)) .messages)) → Invariant C L a (K .view (run C K x is)) (historyFrom a h (events C K x is))
+      → Invariant C L a (K .view (run C K x is)) (historyFrom a h (events C K x is))
   unfolding run events historyFrom
-  run-keeps inv [] single = inv
-  run-keeps {a} {x} {h} inv (i ∷ is) single =
-      run-keeps (step-keeps inv i (fewer (grows a (after a x h i) (events C K (K .step x i) is)) single)) is single
+  run-keeps inv [] = inv
+  run-keeps inv (i ∷ is) = run-keeps (step-keeps inv i) is
 
   -- the rule's messages are those taken in or written
   step-messages : {a : Actor} {x : K .Held} {h : History} → Invariant C L a (K .view x) h → (i : K .Input) (m : Message)
@@ -117,13 +103,10 @@ module _ (C : ClockModel) (L : ClockLaws C) (K : Controller C) where
       by-answer false e = (inr, ⊎-elim (λ k. absurd (List·Memᴰ·not-nil k)) (λ k. k))
 
   run-messages : {a : Actor} {x : K .Held} {h : History} → Invariant C L a (K .view x) h → (is : List (K .Input))
-      → OneLabelPerDot (pairs ((historyFrom a h (events C K x is)) .messages))
       → (m : Message) → (m ∈ (historyFrom a h (events C K x is)) .messages) ↔ ((m ∈ traffic C K x is) ⊎ (m ∈ h .messages))
   unfolding events historyFrom traffic
-  run-messages inv [] single m = (inr, ⊎-elim (λ k. absurd (List·Memᴰ·not-nil k)) (λ k. k))
-  run-messages {a} {x} {h} inv (i ∷ is) single m =
-      regroup member-append
-      (run-messages (step-keeps inv i (fewer (grows a (after a x h i) (events C K (K .step x i) is)) single)) is single m) (step-messages inv i m)
+  run-messages inv [] m = (inr, ⊎-elim (λ k. absurd (List·Memᴰ·not-nil k)) (λ k. k))
+  run-messages inv (i ∷ is) m = regroup member-append (run-messages (step-keeps inv i) is m) (step-messages inv i m)
     where
       regroup : {Now Later Both Old Mid New : Type 0} → Both ↔ (Now ⊎ Later) → New ↔ (Later ⊎ Mid) → Mid ↔ (Now ⊎ Old) → New ↔ (Both ⊎ Old)
       regroup f g k = (
@@ -135,51 +118,57 @@ module _ (C : ClockModel) (L : ClockLaws C) (K : Controller C) where
   unfolding effect
   compaction-does {x} {i} c = K .does x i (c .done) ∙ ap (effect C (K .view x)) (c .call-is)
 
-  begins : {a : Actor} {x : K .Held} → K .view x ≡ setUp C a → Invariant C L a (K .view x) noHistory
-  begins {a} e = rw e (at-start C L a)
+  -- ---- of every life, whatever labels share a dot
+
+  abbrev historyOf : Life C K → History
+  historyOf c = historyFrom (c .actor) noHistory (events C K (c .start) (c .calls))
+
+  begins : (c : Life C K) → Invariant C L (c .actor) (K .view (c .start)) noHistory
+  begins c = rw (c .fresh) (at-start C L (c .actor))
+
+  pub life-keeps : (c : Life C K) → Invariant C L (c .actor) (K .view (endOf C K c)) (historyOf c)
+  life-keeps c = run-keeps (begins c) (c .calls)
+
+  -- the rule's messages are the traffic
+  pub traffic-is : (c : Life C K) → SameMembers (accepted C K c) (trafficOf C K c)
+  traffic-is c m =
+      let f = run-messages (begins c) (c .calls) m in
+      (λ k. ⊎-elim (λ t. t) (λ n. absurd (List·Memᴰ·not-nil n)) (f .0 k), λ t. f .1 (inl t))
+
+  -- ---- the two claims
 
   pub follows-the-rule : FollowsTheRule C K
   unfolding listing ruleListing compacted
-  follows-the-rule a x fresh is single = record {
-    listing-is = ap linesOf (live-keys C L inv);
-    rule-means = is-listing (accepted C K a x is);
-    lookup-is = λ l. rw (← (live-keys C L inv)) (found-label C L inv l);
+  follows-the-rule c = record {
     clock-is = λ d. (inv .seen-named d, inv .named-seen d);
-    compaction-is = λ i c. ap (λ (s : State C). s .keys) (compaction-does c) ∙ live-keys C L inv;
+    listing-is = λ single. ap linesOf (live-keys C L inv single);
+    rule-means = is-listing (accepted C K c);
+    lookup-is = λ single l. rw (← (live-keys C L inv single)) (found-label C (K .view (endOf C K c)) l);
+    compaction-is = λ single i z. ap (λ (s : State C). s .keys) (compaction-does z) ∙ live-keys C L inv single;
   }
     where
-      inv : Invariant C L a (K .view (run C K x is)) (historyFrom a noHistory (events C K x is))
-      inv = run-keeps (begins fresh) is single
-
-  -- from set-up the rule's messages are the traffic
-  traffic-is : (a : Actor) (x : K .Held) → K .view x ≡ setUp C a → (is : List (K .Input)) → OneLabelPerDot (pairs (accepted C K a x is))
-      → SameMembers (accepted C K a x is) (traffic C K x is)
-  traffic-is a x fresh is single m =
-      let f = run-messages (begins fresh) is single m in
-      (λ k. ⊎-elim (λ t. t) (λ n. absurd (List·Memᴰ·not-nil n)) (f .0 k), λ t. f .1 (inl t))
+      inv : Invariant C L (c .actor) (K .view (endOf C K c)) (historyOf c)
+      inv = life-keeps c
 
   pub replicas-agree : ReplicasAgree C K
   unfolding listing compacted
-  replicas-agree a b x y fresh fresh′ is js same single = record {
-    same-listing = ap linesOf (equal-live-keys C L inv inv′ alike);
-    same-clock = λ i j c d. ap (λ (s : State C). s .clock) (compaction-does c) ∙ equal-clocks C L inv inv′ alike ∙ sym (ap (λ (s : State C). s .clock) (compaction-does d));
-    same-keys = λ i j c d. ap (λ (s : State C). s .keys) (compaction-does c) ∙ equal-live-keys C L inv inv′ alike ∙ sym (ap (λ (s : State C). s .keys) (compaction-does d));
+  replicas-agree c d same = record {
+    same-clock = λ i j y z. ap (λ (s : State C). s .clock) (compaction-does y) ∙ equal-clocks C L inv inv′ alike ∙ sym (ap (λ (s : State C). s .clock) (compaction-does z));
+    same-listing = λ single. ap linesOf (keys single);
+    same-keys = λ single i j y z. ap (λ (s : State C). s .keys) (compaction-does y) ∙ keys single ∙ sym (ap (λ (s : State C). s .keys) (compaction-does z));
   }
     where
-      one : OneLabelPerDot (pairs (accepted C K a x is))
-      one = fewer (λ m. Memᴰ·append-left (accepted C K b y js)) single
+      inv : Invariant C L (c .actor) (K .view (endOf C K c)) (historyOf c)
+      inv = life-keeps c
 
-      two : OneLabelPerDot (pairs (accepted C K b y js))
-      two = fewer (λ m. Memᴰ·append-right (accepted C K a x is)) single
+      inv′ : Invariant C L (d .actor) (K .view (endOf C K d)) (historyOf d)
+      inv′ = life-keeps d
 
-      inv : Invariant C L a (K .view (run C K x is)) (historyFrom a noHistory (events C K x is))
-      inv = run-keeps (begins fresh) is one
-
-      inv′ : Invariant C L b (K .view (run C K y js)) (historyFrom b noHistory (events C K y js))
-      inv′ = run-keeps (begins fresh′) js two
-
-      alike : SameMembers (accepted C K a x is) (accepted C K b y js)
+      alike : SameMembers (accepted C K c) (accepted C K d)
       alike m =
-          let here = traffic-is a x fresh is one m in
-          let there = traffic-is b y fresh′ js two m in
+          let here = traffic-is c m in
+          let there = traffic-is d m in
           (λ k. there .1 ((same m) .0 (here .0 k)), λ k. here .1 ((same m) .1 (there .0 k)))
+
+      keys : OneLabelPerDot (pairs (accepted C K c ++ accepted C K d)) → liveKeys C (K .view (endOf C K c)) ≡ liveKeys C (K .view (endOf C K d))
+      keys single = equal-live-keys C L inv inv′ alike (fewer (λ m. Memᴰ·append-left (accepted C K d)) single) (fewer (λ m. Memᴰ·append-right (accepted C K c)) single)

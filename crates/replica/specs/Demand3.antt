@@ -1,5 +1,5 @@
 -- Demand 3 over lists, for every controller that meets the seam: after any calls its listing, lookup, clock and compacted keys are those
--- of the rule, and two controllers that accepted the same messages agree. A refused call is a call of the run like any other.
+-- of the rule, and two controllers that accepted the same messages agree. A refused call is a call of the life like any other.
 use mathlib.Core.Bool.{Bool, cond}
 use mathlib.Core.List.{List, [], _∷_, _++_}
 use mathlib.Core.Logic.{_↔_, _⊎_}
@@ -39,35 +39,48 @@ module _ (C : ClockModel) (K : Controller C) where
     pub call-is : K .callOf i ≡ compact
     pub done : K .answer x i ≡ 0
 
-  -- what is held is as the rule says, for the messages accepted on the way to it
+  -- What is held is as the rule says, for the messages accepted on the way to it. The proviso that no two adds give one dot to different labels
+  -- stands in each field that needs it.
   pub record Follows (x : K .Held) (ms : List Message) : Type 0 where
-    -- the listing is the rule's, and this means what document 01 says
-    pub listing-is : listing C (K .view x) ≡ ruleListing ms
-    pub rule-means : IsListing ms (ruleListing ms)
-    -- lookup says yes exactly if the listing has the label
-    pub lookup-is : (l : Label) → T (found C (K .view x) l) ↔ (l ∈ lineLabels (ruleListing ms))
     -- "The clock then sees just the dots in either set"
     pub clock-is : (d : Dot) → T (seen C (K .view x) d) ↔ (Paired ms d ⊎ (d ∈ removed ms))
+    -- the listing is the rule's, and this means what document 01 says
+    pub listing-is : OneLabelPerDot (pairs ms) → listing C (K .view x) ≡ ruleListing ms
+    pub rule-means : IsListing ms (ruleListing ms)
+    -- lookup says yes exactly if the listing has the label
+    pub lookup-is : OneLabelPerDot (pairs ms) → (l : Label) → T (found C (K .view x) l) ↔ (l ∈ lineLabels (ruleListing ms))
     -- "and a compaction accepted next leaves just the keys of the pairs not removed"
-    pub compaction-is : (i : K .Input) → Compacts x i → (K .view (K .step x i)) .keys ≡ livePairs ms
+    pub compaction-is : OneLabelPerDot (pairs ms) → (i : K .Input) → Compacts x i → (K .view (K .step x i)) .keys ≡ livePairs ms
 
-  -- two controllers list the same and, after "one accepted compaction on each as its next call", have equal clocks and keys
-  pub record Agree (x y : K .Held) : Type 0 where
-    pub same-listing : listing C (K .view x) ≡ listing C (K .view y)
+  -- Two controllers, ms being the messages of both: they list the same and, after "one accepted compaction on each as its next call",
+  -- have equal clocks and keys.
+  pub record Agree (ms : List Message) (x y : K .Held) : Type 0 where
     pub same-clock : (i j : K .Input) → Compacts x i → Compacts y j → (K .view (K .step x i)) .clock ≡ (K .view (K .step y j)) .clock
-    pub same-keys : (i j : K .Input) → Compacts x i → Compacts y j → (K .view (K .step x i)) .keys ≡ (K .view (K .step y j)) .keys
+    pub same-listing : OneLabelPerDot (pairs ms) → listing C (K .view x) ≡ listing C (K .view y)
+    pub same-keys : OneLabelPerDot (pairs ms) → (i j : K .Input) → Compacts x i → Compacts y j
+        → (K .view (K .step x i)) .keys ≡ (K .view (K .step y j)) .keys
 
-  -- the messages that the rule reads off the calls from set-up
-  abbrev pub accepted : Actor → K .Held → List (K .Input) → List Message
-  accepted a x is = (historyFrom a noHistory (events x is)) .messages
+  -- a controller from its set-up on, with any calls
+  pub record Life : Type 0 where
+    pub actor : Actor
+    pub start : K .Held
+    pub fresh : K .view start ≡ setUp C actor
+    pub calls : List (K .Input)
 
-  -- one controller, from its set-up on, with any calls
+  abbrev pub endOf : Life → K .Held
+  endOf c = run (c .start) (c .calls)
+
+  -- the messages that the rule reads off the calls
+  abbrev pub accepted : Life → List Message
+  accepted c = (historyFrom (c .actor) noHistory (events (c .start) (c .calls))) .messages
+
+  abbrev pub trafficOf : Life → List Message
+  trafficOf c = traffic (c .start) (c .calls)
+
+  -- one controller
   abbrev pub FollowsTheRule : Type 0
-  FollowsTheRule = (a : Actor) (x : K .Held) → K .view x ≡ setUp C a → (is : List (K .Input))
-      → OneLabelPerDot (pairs (accepted a x is)) → Follows (run x is) (accepted a x is)
+  FollowsTheRule = (c : Life) → Follows (endOf c) (accepted c)
 
   -- two controllers that "accepted the same messages"
   abbrev pub ReplicasAgree : Type 0
-  ReplicasAgree = (a b : Actor) (x y : K .Held) → K .view x ≡ setUp C a → K .view y ≡ setUp C b → (is js : List (K .Input))
-      → SameMembers (traffic x is) (traffic y js)
-      → OneLabelPerDot (pairs (accepted a x is ++ accepted b y js)) → Agree (run x is) (run y js)
+  ReplicasAgree = (c d : Life) → SameMembers (trafficOf c) (trafficOf d) → Agree (accepted c ++ accepted d) (endOf c) (endOf d)

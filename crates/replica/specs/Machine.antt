@@ -18,8 +18,8 @@ pub data Call : Type 0 where
   ownAdd : Label → Context → Call
   ownRemove : Context → Call
   takeIn : Message → Call
-  list : Call
-  lookup : Label → Call
+  -- a listing or a lookup
+  reads : Call
   compact : Call
 
 -- the message that a call takes in or writes, given the dot that an own add takes
@@ -27,8 +27,7 @@ unfoldable pub messagesOf : Dot → Call → List Message
 messagesOf d (ownAdd l context) = add l d context ∷ []
 messagesOf d (ownRemove context) = remove context ∷ []
 messagesOf d (takeIn m) = m ∷ []
-messagesOf d list = []
-messagesOf d (lookup l) = []
+messagesOf d reads = []
 messagesOf d compact = []
 
 module _ (C : ClockModel) where
@@ -110,8 +109,7 @@ module _ (C : ClockModel) where
     effect (ownRemove context) = apply [] context
     effect (takeIn (add l d context)) = apply (ifUnseen l d) context
     effect (takeIn (remove context)) = apply [] context
-    effect list = s
-    effect (lookup l) = s
+    effect reads = s
     effect compact = compacted
 
     -- the message that an accepted call takes in or writes
@@ -136,8 +134,7 @@ module _ (C : ClockModel) where
     allowed (ownRemove context) = mayApply [] [] context
     allowed (takeIn (add l d context)) = mayAdd (ifUnseen l d) d (d ∷ []) context
     allowed (takeIn (remove context)) = mayApply [] [] context
-    allowed list = true
-    allowed (lookup l) = true
+    allowed reads = true
     allowed compact = true
 
 -- The seam for the byte level: what a controller on bytes must show to be this machine.

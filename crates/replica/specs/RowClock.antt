@@ -2,17 +2,16 @@
 use mathlib.Core.Bool.{_&&_}
 use mathlib.Core.List.{List}
 use Prim.Native.Nat.{ℕ}
-use lib.ListN.{replicate}
 use Rattle.wire.specs.Lists.{all}
 use Rattle.dots.specs.Dots.{dotOk}
-use Rattle.clock.specs.Clock.{rowAt, sees, joinAll, near}
+use Rattle.clock.specs.Clock.{rowAt, sees, joinAll, near, zeroClock}
 use Rattle.replica.specs.Clock.{ClockModel}
 
 -- with windows of W bits
 abbrev pub rowClock : ℕ → ClockModel
 rowClock W = record {
   Clock = List ℕ;
-  zeroClock = replicate 32 0;
+  zeroClock = zeroClock;
   sees = sees;
   base = λ words a. rowAt words (a .number) .base;
   fits = λ words ds. all dotOk ds && near W words ds;

@@ -11,7 +11,7 @@ use Rattle.dots.specs.Names.{Label}
 use Rattle.dots.specs.Dots.{dotOf, compareDots}
 use Rattle.dots.specs.Entries.{Entry, entry, compareEntries, Line, linesOf, lineLabels, entriesOf}
 use Rattle.dots.specs.Message.{Message, contextOf, pairsOf}
-use Rattle.replica.specs.Machine.{Call, messagesOf, ownAdd, ownRemove, takeIn, list, lookup, compact}
+use Rattle.replica.specs.Machine.{Call, messagesOf, ownAdd, ownRemove, takeIn, reads, compact}
 
 -- all that the rule reads of a call
 pub record Event : Type 0 where
@@ -31,8 +31,7 @@ unfoldable pub countOwnAdd : ℕ → Call → ℕ
 countOwnAdd n (ownAdd l context) = n + 1
 countOwnAdd n (ownRemove context) = n
 countOwnAdd n (takeIn m) = n
-countOwnAdd n list = n
-countOwnAdd n (lookup l) = n
+countOwnAdd n reads = n
 countOwnAdd n compact = n
 
 -- One accepted call more. An own add's dot is "the controller's actor with the number of own adds that this controller has accepted under that actor

@@ -6,24 +6,33 @@ ghost use lib.ListN.{length};
 ghost use Rattle.wire.specs.Lists.{member};
 ghost use Rattle.dots.specs.Dots.{compareDots, ascendingDots};
 ghost use Rattle.dots.specs.Wire.{dotsOf};
-ghost use Rattle.slots.specs.Slots.{slotOf, Slotted};
+ghost use Rattle.slots.specs.Slots.{slotOf, Slotted, slotCount};
+
+// A table of slots, a byte each: by a counter's remainder, then an actor's.
+const COUNTERS: u64 = 64;
+
+const ACTORS: usize = 16;
+
+pub const SLOTS: usize = COUNTERS as usize * ACTORS;
+
+pub type Slots = [u8; SLOTS];
 
 // The slot of a dot.
 fn slot_of(dot: dots::Dot) -> usize
-    ensures { λ r. ⌜ (r ≡ slotOf dot) × (r < 1024) ⌝ }
+    ensures { λ r. ⌜ (r ≡ slotOf dot) × (r < slotCount) ⌝ }
 {
-    (dot.counter.number % 64) as usize * 16 + dot.actor.number as usize % 16
+    (dot.counter.number % COUNTERS) as usize * ACTORS + dot.actor.number as usize % ACTORS
 }
 
 // Sets the slots of all dots, nine bytes each.
-pub fn fill_slots(dots: &[u8], slots: &mut [u8; 1024])
-    requires { ⌜ length (now slots) ≡ 1024 ⌝ }
+pub fn fill_slots(dots: &[u8], slots: &mut Slots)
+    requires { ⌜ length (now slots) ≡ slotCount ⌝ }
     ensures { λ _. ⌜ Slotted (dotsOf (now (dots .entry))) (now (slots .exit)) ⌝ }
 {
-    let n = dots.len() / 9;
+    let n = dots.len() / dots::DOT_SIZE;
     let mut i: usize = 0;
     while i < n {
-        let d = dots::dot_at(dots, i * 9);
+        let d = dots::dot_at(dots, i * dots::DOT_SIZE);
         let at = slot_of(d);
         slots[at] = 1;
         i = i + 1;
@@ -31,7 +40,7 @@ pub fn fill_slots(dots: &[u8], slots: &mut [u8; 1024])
 }
 
 // Whether the dot is one of the ascending dots, whose slots are set.
-pub fn holds_slotted(dots: &[u8], slots: &[u8; 1024], dot: dots::Dot) -> bool
+pub fn holds_slotted(dots: &[u8], slots: &Slots, dot: dots::Dot) -> bool
     requires { ⌜ (ascendingDots (dotsOf (now dots)) ≡ true) × Slotted (dotsOf (now dots)) (now slots) ⌝ }
     ensures { λ r. ⌜ r ≡ member compareDots dot (dotsOf (now (dots .entry))) ⌝ }
 {

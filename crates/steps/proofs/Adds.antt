@@ -26,25 +26,27 @@ use Rattle.store.specs.Place.{insertedEntry}
 use Rattle.store.proofs.OnePass.{used-begin}
 use Rattle.replica.specs.Machine.{ifUnseen}
 use Rattle.calls.specs.declared.State.{State}
-use Rattle.calls.specs.State.{clockModel, nameOf, view}
+use Rattle.calls.specs.State.{clockModel, nameOf, view, Sized}
 use Rattle.calls.specs.Effect.{tombstoneOf, stateOf, storeOf}
 use Rattle.calls.specs.Refusals.{storeFull}
-use Rattle.steps.specs.Tests.{stateOk, stateWith, nextTombstone, MayApply, applied}
+use Rattle.steps.specs.Tests.{stateWith, nextTombstone, MayApply, applied}
+use Rattle.judging.specs.Judging.{stateOk}
 use Rattle.calls.proofs.Clauses.{Undamaged, undamaged}
 use Rattle.steps.proofs.Performed.{seen-state, seen-store, stored-state, stored-store}
 use Rattle.steps.proofs.Answers.{kept}
+use Rattle.keys.specs.Key.{labelKeyFixed}
 
-pub name-length : (st : State) → length (st .name .bytes) ≡ 16 → stateOk st ≡ true → length (nameOf st) ≡ st .name .len
-name-length st size ok = let short = kept st ok .short in length-take-le (st .name .len) (st .name .bytes) (omega arith)
+pub name-length : (st : State) → Sized st → stateOk st ≡ true → length (nameOf st) ≡ st .name .len
+name-length st sized ok = let size = sized .name-size in let short = kept st ok .short in length-take-le (st .name .len) (st .name .bytes) (omega arith)
 
 -- refusal 12, for the entry that an add stores
 pub store-full : (st : State) (store : Bytes) (label : Label) (d : Dot) → length (nameOf st) ≡ st .name .len
-    → storeFull st store (ifUnseen clockModel (view st store) label d) ≡ (not (sees (st .clock .words) d) && ltb (length store) (st .used + (st .name .len + length label + 15)))
+    → storeFull st store (ifUnseen clockModel (view st store) label d) ≡ (not (sees (st .clock .words) d) && ltb (length store) (st .used + (st .name .len + length label + labelKeyFixed)))
 unfolding any view
 store-full st store label d named = by (sees (st .clock .words) d)
   where
     by : (b : Bool) → any (λ (e : Entry). ltb (length store) (st .used + length (entryKey (nameOf st) e))) (cond b [] (entry label d ∷ []))
-        ≡ (not b && ltb (length store) (st .used + (st .name .len + length label + 15)))
+        ≡ (not b && ltb (length store) (st .used + (st .name .len + length label + labelKeyFixed)))
     by true = refl
     by false = rw (length-entry-key, named) (or-false _)
 
@@ -60,32 +62,32 @@ module _ (st : State) (store label context : Bytes) (d : Dot) (m : MayApply st s
   used-ok = let stored = u .stored in search both
 
   named : length (nameOf st) ≡ st .name .len
-  named = name-length st (m .name-size) (m .joins .state-ok)
+  named = name-length st (m .sized) (m .joins .state-ok)
 
   module _ (seen : Bool) (e : seen ≡ sees (st .clock .words) d) where
     pub apply-seen : seen ≡ true → (r : State) → r ≡ stateWith st (joinAll windowWidth (st .clock .words) (d ∷ dotsOf context)) (tombstoneOf (nextTombstone st (dotsOf context))) (st .used)
         → (r ≡ stateOf st (applied st store label (dotsOf context) d)) × (store ≡ storeOf st store (applied st store label (dotsOf context) d))
     apply-seen t r f =
         let known = sym e ∙ t in (
-          f ∙ seen-state st store u (m .words-size) label d (dotsOf context) (m .labelled) (m .joins .dot-ok) ok (m .joins .close) known,
-          sym (seen-store st store u (m .words-size) label d (dotsOf context) (m .labelled) (m .joins .dot-ok) ok (m .joins .close) known),
+          f ∙ seen-state st store u (m .sized .words-size) label d (dotsOf context) (m .labelled) (m .joins .dot-ok) ok (m .joins .close) known,
+          sym (seen-store st store u (m .sized .words-size) label d (dotsOf context) (m .labelled) (m .joins .dot-ok) ok (m .joins .close) known),
         )
 
     pub entry-fits : seen ≡ false
         → (st .name .len ≤ length (st .name .bytes)) × (nameOk (nameOf st) ≡ true) × (labelOk label ≡ true)
-        × (all (startsWith (prefix (nameOf st))) (keysOf (length (nameOf st)) (take (st .used) store)) ≡ true) × (st .used + (st .name .len + length label + 15) ≤ length store)
+        × (all (startsWith (prefix (nameOf st))) (keysOf (length (nameOf st)) (take (st .used) store)) ≡ true) × (st .used + (st .name .len + length label + labelKeyFixed) ≤ length store)
     entry-fits t =
         let k = kept st (m .joins .state-ok) in
-        let size = m .name-size in
+        let size = m .sized .name-size in
         let short = k .short in
         (omega arith, k .named, m .labelled, used-begin (nameOf st) (st .clock .words) (take (st .used) store) used-ok, m .room-for (sym e ∙ t))
 
-    pub apply-stored : seen ≡ false → (r : State) (grown : ℕ) (store′ : Bytes) → grown ≡ st .used + (st .name .len + length label + 15)
+    pub apply-stored : seen ≡ false → (r : State) (grown : ℕ) (store′ : Bytes) → grown ≡ st .used + (st .name .len + length label + labelKeyFixed)
         → store′ ≡ insertedEntry (nameOf st) store (st .used) (entry label d)
         → r ≡ stateWith st (joinAll windowWidth (st .clock .words) (d ∷ dotsOf context)) (tombstoneOf (nextTombstone st (dotsOf context))) grown
         → (r ≡ stateOf st (applied st store label (dotsOf context) d)) × (store′ ≡ storeOf st store (applied st store label (dotsOf context) d))
     apply-stored t r grown store′ f g h =
         let new = sym e ∙ t in (
-          h ∙ rw f (stored-state st store u (m .words-size) label d (dotsOf context) (m .labelled) (m .joins .dot-ok) ok (m .joins .close) named new),
-          g ∙ stored-store st store u (m .words-size) label d (dotsOf context) (m .labelled) (m .joins .dot-ok) ok (m .joins .close) named new,
+          h ∙ rw f (stored-state st store u (m .sized .words-size) label d (dotsOf context) (m .labelled) (m .joins .dot-ok) ok (m .joins .close) named new),
+          g ∙ stored-store st store u (m .sized .words-size) label d (dotsOf context) (m .labelled) (m .joins .dot-ok) ok (m .joins .close) named new,
         )

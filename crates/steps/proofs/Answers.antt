@@ -15,9 +15,9 @@ use Rattle.wire.proofs.Tests.{both, neither}
 use Rattle.dots.specs.declared.Answer.{Answer}
 use Rattle.dots.specs.declared.Dot.{Dot}
 use Rattle.dots.specs.Answer.{numberOf, Refusals, firstOf}
-use Rattle.dots.specs.Names.{nameOk, labelMost, textOk, labelOk}
-use Rattle.dots.specs.Dots.{dotOk, compareDots, ascendingDots, contextOk, contextMost}
-use Rattle.dots.specs.Wire.{wholeDots, dotsOf}
+use Rattle.dots.specs.Names.{nameOk, labelMost, textOk, labelOk, nameMost}
+use Rattle.dots.specs.Dots.{dotOk, compareDots, ascendingDots, contextOk, contextMost, tombstoneMost}
+use Rattle.dots.specs.Wire.{wholeDots, dotsOf, dotSize}
 use Rattle.dots.proofs.Table.{Refuses, NoneHolds, none-holds}
 use Rattle.dots.proofs.Loops.{length-dotsAt}
 use Rattle.clock.specs.Row.{windowWidth}
@@ -26,13 +26,14 @@ use Rattle.clock.specs.Reach.{Offer, OfferWith}
 use Rattle.calls.specs.declared.State.{State}
 use Rattle.calls.specs.declared.Tombstone.{Tombstone}
 use Rattle.calls.specs.declared.Outcome.{Outcome}
-use Rattle.calls.specs.State.{nameOf, tombstoneDots, view}
+use Rattle.calls.specs.State.{nameOf, tombstoneDots, view, Sized}
 use Rattle.calls.specs.Damage.{zeroFrom, stateNameOk, tombstoneOk, damaged}
 use Rattle.calls.specs.Refusals.{badContext, ownAhead}
 use Rattle.calls.specs.Calls.{Result, refused, decided}
 use Rattle.calls.specs.Promise.{Leaves}
-use Rattle.steps.specs.Tests.{aheadOf, stateWith, stateOk, Tombstoned, Padded, ContextFits}
-use Rattle.steps.proofs.DamageTest.{damaged-is}
+use Rattle.steps.specs.Tests.{aheadOf, stateWith, Tombstoned, Padded, ContextFits}
+use Rattle.judging.specs.Judging.{stateOk}
+use Rattle.judging.proofs.DamageTest.{damaged-is}
 use Rattle.steps.proofs.Performed.{tombstone-padded}
 
 -- ---- two tables in a row
@@ -95,44 +96,44 @@ parts-made st words words′ bytes count used t e f = with-parts st words words�
 pub state-kept : (st : State) (store : Bytes) → damaged st store ≡ false → stateOk st ≡ true
 state-kept st store h = let whole = sym (damaged-is st store) ∙ h in not-false (stateOk st) (search neither)
 
-pub dots-many : (s : Bytes) → length (dotsOf s) ≡ length s / 9
+pub dots-many : (s : Bytes) → length (dotsOf s) ≡ length s / dotSize
 unfolding dotsOf
-dots-many s = length-dotsAt (length s / 9) s 0
+dots-many s = length-dotsAt (length s / dotSize) s 0
 
 pub context-fits : (context : Bytes) → badContext context ≡ false → ContextFits context
 context-fits context h =
     let rule : (wholeDots context && contextOk (dotsOf context)) ≡ true = not-false _ h in
     let few : length (dotsOf context) ≤ contextMost = leb-true _ _ (search both) in
-    let whole : length context % 9 ≡ 0 = eqb-true _ 0 (search both) in
+    let whole : length context % dotSize ≡ 0 = eqb-true _ 0 (search both) in
     let many = dots-many context in
     record { whole = whole; short = omega arith; ascends = search both }
 
 -- what an undamaged state keeps, whatever its store is
 pub record Kept (st : State) : Type 0 where
   pub named : nameOk (nameOf st) ≡ true
-  pub short : st .name .len ≤ 16
+  pub short : st .name .len ≤ nameMost
   pub rows : rowsOk windowWidth (st .clock .words) ≡ true
-  pub few : st .tombstone .count ≤ 128
+  pub few : st .tombstone .count ≤ tombstoneMost
   pub ascends : ascendingDots (tombstoneDots st) ≡ true
-  pub zeros : zeroFrom (st .tombstone .count * 9) (st .tombstone .bytes) ≡ true
+  pub zeros : zeroFrom (st .tombstone .count * dotSize) (st .tombstone .bytes) ≡ true
 
 pub kept : (st : State) → stateOk st ≡ true → Kept st
 unfolding stateOk stateNameOk tombstoneOk clockOk
 kept st h = record {
   named = search both;
-  short = leb-true (st .name .len) 16 (search both);
+  short = leb-true (st .name .len) nameMost (search both);
   rows = search both;
-  few = leb-true (st .tombstone .count) 128 (search both);
+  few = leb-true (st .tombstone .count) tombstoneMost (search both);
   ascends = search both;
   zeros = search both;
 }
 
 module _ (st : State) (k : Kept st) where
-  pub tombstoned : length (st .tombstone .bytes) ≡ 1152 → Tombstoned (st .tombstone .bytes) (st .tombstone .count)
-  tombstoned size = record { size = size; few = k .few; ascends = k .ascends }
+  pub tombstoned : Sized st → Tombstoned (st .tombstone .bytes) (st .tombstone .count)
+  tombstoned sized = record { size = sized .tombstone-size; few = k .few; ascends = k .ascends }
 
-  pub padded-tombstone : length (st .tombstone .bytes) ≡ 1152 → ((j : ℕ) → Fits w8 (getD (st .tombstone .bytes) j 0)) → Padded (st .tombstone .bytes) (st .tombstone .count)
-  padded-tombstone size small = tombstone-padded (st .tombstone .bytes) (st .tombstone .count) small size (k .few) (k .ascends) (k .zeros)
+  pub padded-tombstone : Sized st → ((j : ℕ) → Fits w8 (getD (st .tombstone .bytes) j 0)) → Padded (st .tombstone .bytes) (st .tombstone .count)
+  padded-tombstone sized small = tombstone-padded (st .tombstone .bytes) (st .tombstone .count) small (sized .tombstone-size) (k .few) (k .ascends) (k .zeros)
 
   pub offer : (context : Bytes) → ContextFits context → Offer windowWidth (st .clock .words) (dotsOf context)
   offer context f = record { rows = k .rows; ascends = f .ascends }

@@ -4,25 +4,23 @@ use mathlib.Core.Path.{_≡_, refl, sym, ap, _∙_}
 use mathlib.Core.Bool.{true, false, not}
 use mathlib.Core.List.{List, [], _∷_, _++_, append-nil}
 use native.Mathlib.Omega.{arith}
-use lib.Dec.{eqb}
-use lib.ListN.{length, take, drop, replicate, getD, take-append-drop, length-drop}
+use lib.ListN.{length, take, drop, getD, take-append-drop, length-drop}
 use lib.Seq.{length-take-le}
 use mir.Val.{Fits}
 use mir.Syntax.{w8}
-use borrow.Author.Tests.{eqb-true}
 use Rattle.wire.specs.Lists.{_∈_, all, keep, insert, insertAll}
 use Rattle.wire.specs.Bytes.{Bytes}
-use Rattle.wire.proofs.Tests.{both-left, both-right, pass, fail}
+use Rattle.wire.proofs.Tests.{pass, fail}
 use Rattle.wire.proofs.Lists.{keep-member, member-keep, all-member}
 use Rattle.wire.proofs.Fields.{bytes-take}
 use Rattle.dots.specs.declared.Dot.{Dot}
 use Rattle.dots.specs.Names.{Label, labelOk}
 use Rattle.dots.specs.Entries.{Entry, entry, compareEntries}
-use Rattle.dots.specs.Dots.{Context, dotOk, ascendingDots}
-use Rattle.dots.specs.Wire.{dotsBytes, dotsOf}
+use Rattle.dots.specs.Dots.{Context, dotOk, ascendingDots, tombstoneMost}
+use Rattle.dots.specs.Wire.{dotsBytes, dotsOf, dotSize, tombstoneSize}
 use Rattle.dots.proofs.RoundTrip.{dots-read}
 use Rattle.clock.specs.Row.{windowWidth}
-use Rattle.clock.specs.Clock.{sees, joinAll, near}
+use Rattle.clock.specs.Clock.{sees, joinAll, near, clockWords}
 use Rattle.store.specs.Cut.{storeBytes}
 use Rattle.store.specs.Place.{insertedEntry}
 use Rattle.store.proofs.Inserted.{length-inserted, entry-inserted}
@@ -34,33 +32,27 @@ use Rattle.calls.specs.Effect.{tombstoneOf, stateOf, storeOf}
 use Rattle.steps.specs.Tests.{Padded, nextTombstone, applied, stateWith}
 use Rattle.calls.proofs.Validity.{all-kept}
 use Rattle.calls.proofs.Clauses.{Undamaged, used-fits, entries-of}
-use Rattle.calls.proofs.Whole.{view-whole}
+use Rattle.calls.proofs.Whole.{view-whole, zeros-are}
 use Rattle.steps.proofs.Joining.{joined-same}
 use Rattle.calls.proofs.Guard.{entry-ok}
+use Rattle.keys.specs.Key.{labelKeyFixed}
 
 -- ---- the tombstone's bytes
 
-zeros-are : (s : List ℕ) → all (λ b. eqb b 0) s ≡ true → s ≡ replicate (length s) 0
-unfolding all
-zeros-are [] h = refl
-zeros-are (b ∷ s) h =
-    let zero : b ≡ 0 = eqb-true b 0 (both-left (eqb b 0) (all (λ b. eqb b 0) s) h) in
-    rw zero (ap (λ (t : List ℕ). 0 ∷ t) (zeros-are s (both-right (eqb b 0) (all (λ b. eqb b 0) s) h)))
-
-pub tombstone-padded : (bytes : List ℕ) (count : ℕ) → ((j : ℕ) → Fits w8 (getD bytes j 0)) → length bytes ≡ 1152 → count ≤ 128
-    → ascendingDots (dotsOf (take (count * 9) bytes)) ≡ true → zeroFrom (count * 9) bytes ≡ true → Padded bytes count
+pub tombstone-padded : (bytes : List ℕ) (count : ℕ) → ((j : ℕ) → Fits w8 (getD bytes j 0)) → length bytes ≡ tombstoneSize → count ≤ tombstoneMost
+    → ascendingDots (dotsOf (take (count * dotSize) bytes)) ≡ true → zeroFrom (count * dotSize) bytes ≡ true → Padded bytes count
 tombstone-padded bytes count small size few up past =
-    let front : length (take (count * 9) bytes) ≡ count * 9 = length-take-le (count * 9) bytes (omega arith) in
-    let read : dotsBytes (dotsOf (take (count * 9) bytes)) ≡ take (count * 9) bytes = dots-read (take (count * 9) bytes) (bytes-take bytes (count * 9) (λ j. small j .fits)) (omega arith) in
-    let left : length (drop (count * 9) bytes) ≡ 1152 - length (take (count * 9) bytes) = rw (length-drop, front, size) in
+    let front : length (take (count * dotSize) bytes) ≡ count * dotSize = length-take-le (count * dotSize) bytes (omega arith) in
+    let read : dotsBytes (dotsOf (take (count * dotSize) bytes)) ≡ take (count * dotSize) bytes = dots-read (take (count * dotSize) bytes) (bytes-take bytes (count * dotSize) (λ j. small j .fits)) (omega arith) in
+    let left : length (drop (count * dotSize) bytes) ≡ tombstoneSize - length (take (count * dotSize) bytes) = rw (length-drop, front, size) in
     record {
       tomb = record { size = size; few = few; ascends = up };
-      zeros = sym (take-append-drop (count * 9) bytes) ∙ rw read (ap (λ (t : List ℕ). take (count * 9) bytes ++ t) (zeros-are (drop (count * 9) bytes) past ∙ rw left));
+      zeros = sym (take-append-drop (count * dotSize) bytes) ∙ rw read (ap (λ (t : List ℕ). take (count * dotSize) bytes ++ t) (zeros-are (drop (count * dotSize) bytes) past ∙ rw left));
     }
 
 -- ---- the clock and the store
 
-module _ (st : State) (store : Bytes) (u : Undamaged st store) (size : length (st .clock .words) ≡ 32) where
+module _ (st : State) (store : Bytes) (u : Undamaged st store) (size : length (st .clock .words) ≡ clockWords) where
   -- the entries' keys are the used part
   pub keys-used : storeBytes (nameOf st) (entries st store) ≡ take (st .used) store
   keys-used = entries-of st store u .written
@@ -118,18 +110,18 @@ module _ (st : State) (store : Bytes) (u : Undamaged st store) (size : length (s
       entry-new : entry label d ∈ entries st store → ⊥
       entry-new k = fail new (pass (all-member (λ (e : Entry). sees (st .clock .words) (e .dot)) (entries st store) (entries-of st store u .seen) (entry label d) k))
 
-      key-size : length (storeBytes (nameOf st) (insert compareEntries (entry label d) (entries st store))) ≡ st .used + (st .name .len + length label + 15)
+      key-size : length (storeBytes (nameOf st) (insert compareEntries (entry label d) (entries st store))) ≡ st .used + (st .name .len + length label + labelKeyFixed)
       key-size = length-inserted (nameOf st) (entry label d) (entry-ok label d text d-ok) (entries st store) (entries-of st store u .valid) entry-new ∙ rw (keys-used, used-size, named)
 
-      pub stored-state : stateWith st (joinAll windowWidth (st .clock .words) (d ∷ ds)) (tombstoneOf (nextTombstone st ds)) (st .used + (st .name .len + length label + 15))
+      pub stored-state : stateWith st (joinAll windowWidth (st .clock .words) (d ∷ ds)) (tombstoneOf (nextTombstone st ds)) (st .used + (st .name .len + length label + labelKeyFixed))
           ≡ stateOf st (applied st store label ds d)
       unfolding insertAll keep view
-      stored-state = rw new (applied-state (d ∷ ds) offered-ok close (entry label d ∷ []) ds (st .used + (st .name .len + length label + 15)) (rw new) (sym key-size))
+      stored-state = rw new (applied-state (d ∷ ds) offered-ok close (entry label d ∷ []) ds (st .used + (st .name .len + length label + labelKeyFixed)) (rw new) (sym key-size))
 
       pub stored-store : insertedEntry (nameOf st) store (st .used) (entry label d) ≡ storeOf st store (applied st store label ds d)
       unfolding storeOf apply view insertAll
       stored-store =
-          let none : st .used - (st .used + (st .name .len + length label + 15)) ≡ 0 = omega arith in
-          let most : max (st .used) (st .used + (st .name .len + length label + 15)) ≡ st .used + (st .name .len + length label + 15) = omega arith in
+          let none : st .used - (st .used + (st .name .len + length label + labelKeyFixed)) ≡ 0 = omega arith in
+          let most : max (st .used) (st .used + (st .name .len + length label + labelKeyFixed)) ≡ st .used + (st .name .len + length label + labelKeyFixed) = omega arith in
           entry-inserted (nameOf st) (entry label d) (entry-ok label d text d-ok) (entries st store) (entries-of st store u .valid) entry-new store (st .used) (sym keys-used)
           ∙ rw (new, key-size, named, none, most, append-nil)

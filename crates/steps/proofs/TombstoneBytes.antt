@@ -12,8 +12,8 @@ use Rattle.wire.specs.Lists.{consIf, all, keep, insert, insertAll, place}
 use Rattle.wire.proofs.Tests.{both-left, both-right}
 use Rattle.wire.proofs.Lists.{all-member, member-all, insert-member, ascending-insert}
 use Rattle.dots.specs.declared.Dot.{Dot}
-use Rattle.dots.specs.Dots.{compareDots, dotOk, ascendingDots}
-use Rattle.dots.specs.Wire.{dotAt, dotsAt, dotsBytes, dotsOf}
+use Rattle.dots.specs.Dots.{compareDots, dotOk, ascendingDots, tombstoneMost}
+use Rattle.dots.specs.Wire.{dotAt, dotsAt, dotsBytes, dotsOf, dotSize, tombstoneSize}
 use Rattle.dots.proofs.Orders.{dots}
 use Rattle.dots.proofs.Rules.{ascending-valid, ascending-up, up-ascending}
 use Rattle.dots.proofs.Loops.{left, dots-next, length-dotsAt}
@@ -31,26 +31,26 @@ drop-zeros (suc k) zero = rw zero-sub
 drop-zeros (suc k) (suc n) = drop-zeros k n ∙ rw suc-sub-suc
 
 -- padded bytes of a list of dots, and as many, are its tombstone
-pub tombstone-made : (bytes : List ℕ) (count : ℕ) (ds : List Dot) → Padded bytes count → dotsOf (take (count * 9) bytes) ≡ ds → _≡_ {A = Tombstone} (record { bytes = bytes; count = count }) (tombstoneOf ds)
+pub tombstone-made : (bytes : List ℕ) (count : ℕ) (ds : List Dot) → Padded bytes count → dotsOf (take (count * dotSize) bytes) ≡ ds → _≡_ {A = Tombstone} (record { bytes = bytes; count = count }) (tombstoneOf ds)
 tombstone-made bytes count ds p e =
     let size = p .tomb .size in
     let few = p .tomb .few in
     let many : count ≡ length ds = sym (ap length (sym e) ∙ ap length (dots-front bytes count (omega arith)) ∙ length-dotsAt count bytes 0) in
-    let same : bytes ≡ padded 1152 (dotsBytes ds) = p .zeros ∙ ap (λ (l : List Dot). padded 1152 (dotsBytes l)) e in
+    let same : bytes ≡ padded tombstoneSize (dotsBytes ds) = p .zeros ∙ ap (λ (l : List Dot). padded tombstoneSize (dotsBytes l)) e in
     λ i. record { bytes = same i; count = many i }
 
 -- ---- dots at the front of the bytes, and zeros
 
-module _ (ds : List Dot) (ok : ascendingDots ds ≡ true) (few : length ds ≤ 128) where
-  pub padded-dots : dotsOf (take (length ds * 9) (padded 1152 (dotsBytes ds))) ≡ ds
+module _ (ds : List Dot) (ok : ascendingDots ds ≡ true) (few : length ds ≤ tombstoneMost) where
+  pub padded-dots : dotsOf (take (length ds * dotSize) (padded tombstoneSize (dotsBytes ds))) ≡ ds
   padded-dots = tombstone-read ds (ascending-valid ds ok)
 
-  pub padded-holds : Padded (padded 1152 (dotsBytes ds)) (length ds)
+  pub padded-holds : Padded (padded tombstoneSize (dotsBytes ds)) (length ds)
   padded-holds =
       let bytes = length-dots ds in
       record {
         tomb = record {
-          size = length-append (dotsBytes ds) (replicate (1152 - length (dotsBytes ds)) 0) ∙ (let z : length (replicate {A = ℕ} (1152 - length (dotsBytes ds)) 0) ≡ 1152 - length (dotsBytes ds) = length-replicate (1152 - length (dotsBytes ds)) 0 in omega arith);
+          size = length-append (dotsBytes ds) (replicate (tombstoneSize - length (dotsBytes ds)) 0) ∙ (let z : length (replicate {A = ℕ} (tombstoneSize - length (dotsBytes ds)) 0) ≡ tombstoneSize - length (dotsBytes ds) = length-replicate (tombstoneSize - length (dotsBytes ds)) 0 in omega arith);
           few = few;
           ascends = rw padded-dots ok;
         };
@@ -76,29 +76,29 @@ insert-longer d (x ∷ ds) = by (compareDots d x) (insert-longer d ds)
     by Ordering·gt h = omega arith
 
 module _ (bytes : List ℕ) (count : ℕ) (d : Dot) (p : Padded bytes count) (ok : dotOk d ≡ true)
-    (room : length (insert compareDots d (dotsOf (take (count * 9) bytes))) ≤ 128) where
+    (room : length (insert compareDots d (dotsOf (take (count * dotSize) bytes))) ≤ tombstoneMost) where
   abbrev before : List Dot
-  before = dotsOf (take (count * 9) bytes)
+  before = dotsOf (take (count * dotSize) bytes)
 
   abbrev after : List Dot
-  after = insert compareDots d (dotsOf (take (count * 9) bytes))
+  after = insert compareDots d (dotsOf (take (count * dotSize) bytes))
 
-  inserted-bytes : (r : ℕ) (bytes′ : List ℕ) → r ≡ length after → bytes′ ≡ dotsBytes after ++ drop (r * 9) bytes → bytes′ ≡ padded 1152 (dotsBytes after)
+  inserted-bytes : (r : ℕ) (bytes′ : List ℕ) → r ≡ length after → bytes′ ≡ dotsBytes after ++ drop (r * dotSize) bytes → bytes′ ≡ padded tombstoneSize (dotsBytes after)
   inserted-bytes r bytes′ e f =
       let longer = insert-longer d before in
       let old = length-dots before in
       let new = length-dots after in
-      let past : r * 9 ≡ length (dotsBytes before) + (r * 9 - length (dotsBytes before)) = omega arith in
-      let left-over : 1152 - length (dotsBytes before) - (r * 9 - length (dotsBytes before)) ≡ 1152 - length (dotsBytes after) = omega arith in
-      let rest : drop (r * 9) bytes ≡ replicate (1152 - length (dotsBytes after)) 0 =
-      ap (drop (r * 9)) (p .zeros) ∙ ap (λ (k : ℕ). drop k (padded 1152 (dotsBytes before))) past
-      ∙ drop-append-add (dotsBytes before) (replicate (1152 - length (dotsBytes before)) 0) (r * 9 - length (dotsBytes before))
-      ∙ drop-zeros (r * 9 - length (dotsBytes before)) (1152 - length (dotsBytes before))
+      let past : r * dotSize ≡ length (dotsBytes before) + (r * dotSize - length (dotsBytes before)) = omega arith in
+      let left-over : tombstoneSize - length (dotsBytes before) - (r * dotSize - length (dotsBytes before)) ≡ tombstoneSize - length (dotsBytes after) = omega arith in
+      let rest : drop (r * dotSize) bytes ≡ replicate (tombstoneSize - length (dotsBytes after)) 0 =
+      ap (drop (r * dotSize)) (p .zeros) ∙ ap (λ (k : ℕ). drop k (padded tombstoneSize (dotsBytes before))) past
+      ∙ drop-append-add (dotsBytes before) (replicate (tombstoneSize - length (dotsBytes before)) 0) (r * dotSize - length (dotsBytes before))
+      ∙ drop-zeros (r * dotSize - length (dotsBytes before)) (tombstoneSize - length (dotsBytes before))
       ∙ ap (λ (k : ℕ). replicate k 0) left-over in
       f ∙ ap (λ (t : List ℕ). dotsBytes after ++ t) rest
 
-  pub inserted : (r : ℕ) (bytes′ : List ℕ) → r ≡ length after → bytes′ ≡ dotsBytes after ++ drop (r * 9) bytes
-      → Padded bytes′ r × (dotsOf (take (r * 9) bytes′) ≡ after)
+  pub inserted : (r : ℕ) (bytes′ : List ℕ) → r ≡ length after → bytes′ ≡ dotsBytes after ++ drop (r * dotSize) bytes
+      → Padded bytes′ r × (dotsOf (take (r * dotSize) bytes′) ≡ after)
   inserted r bytes′ e f =
       let same = inserted-bytes r bytes′ e f in
       let up = insert-ok d before ok (p .tomb .ascends) in
@@ -111,41 +111,41 @@ unfolding insertAll
 insertAll-longer [] ys = omega arith
 insertAll-longer (x ∷ xs) ys = le-trans (insert-longer x ys) (insertAll-longer xs (insert compareDots x ys))
 
-module _ (words context : List ℕ) (i : ℕ) (ds final : List Dot) (fits : ContextFits context) (h : i < length context / 9)
-    (inv : insertAll compareDots (keep (sees words) (left context i)) ds ≡ final) (few : length final ≤ 128) where
+module _ (words context : List ℕ) (i : ℕ) (ds final : List Dot) (fits : ContextFits context) (h : i < length context / dotSize)
+    (inv : insertAll compareDots (keep (sees words) (left context i)) ds ≡ final) (few : length final ≤ tombstoneMost) where
   abbrev dot : Dot
-  dot = dotAt context (i * 9)
+  dot = dotAt context (i * dotSize)
 
   abbrev step : List Dot
-  step = cond (sees words (dotAt context (i * 9))) (insert compareDots (dotAt context (i * 9)) ds) ds
+  step = cond (sees words (dotAt context (i * dotSize))) (insert compareDots (dotAt context (i * dotSize)) ds) ds
 
   pub tombstone-next : insertAll compareDots (keep (sees words) (left context (i + 1))) step ≡ final
   unfolding keep insertAll
   tombstone-next = by (sees words dot) refl
     where
-      whole : insertAll compareDots (consIf (sees words (dotAt context (i * 9))) (dotAt context (i * 9)) (keep (sees words) (left context (i + 1)))) ds ≡ final
+      whole : insertAll compareDots (consIf (sees words (dotAt context (i * dotSize))) (dotAt context (i * dotSize)) (keep (sees words) (left context (i + 1)))) ds ≡ final
       whole = ap (λ (l : List Dot). insertAll compareDots (keep (sees words) l) ds) (sym (dots-next context i h)) ∙ inv
 
-      by : (b : Bool) → sees words (dotAt context (i * 9)) ≡ b → insertAll compareDots (keep (sees words) (left context (i + 1))) (cond (sees words (dotAt context (i * 9))) (insert compareDots (dotAt context (i * 9)) ds) ds) ≡ final
+      by : (b : Bool) → sees words (dotAt context (i * dotSize)) ≡ b → insertAll compareDots (keep (sees words) (left context (i + 1))) (cond (sees words (dotAt context (i * dotSize))) (insert compareDots (dotAt context (i * dotSize)) ds) ds) ≡ final
       by true e = rw e (rw e at whole)
       by false e = rw e (rw e at whole)
 
   -- what is put in meanwhile is no more than what all of it is in the end
-  pub tombstone-room : length step ≤ 128
-  tombstone-room = le-trans (insertAll-longer (keep (sees words) (left context (i + 1))) step) (subst (λ (l : List Dot). length l ≤ 128) (sym tombstone-next) few)
+  pub tombstone-room : length step ≤ tombstoneMost
+  tombstone-room = le-trans (insertAll-longer (keep (sees words) (left context (i + 1))) step) (subst (λ (l : List Dot). length l ≤ tombstoneMost) (sym tombstone-next) few)
 
 -- the dots of a list in bytes, one by one
-dots-each : (s : List ℕ) (n at i : ℕ) → i < n → all dotOk (dotsAt n s at) ≡ true → dotOk (dotAt s (at + i * 9)) ≡ true
+dots-each : (s : List ℕ) (n at i : ℕ) → i < n → all dotOk (dotsAt n s at) ≡ true → dotOk (dotAt s (at + i * dotSize)) ≡ true
 unfolding dotsAt all
 dots-each s zero at i h ok = absurd (omega arith)
-dots-each s (suc n) at zero h ok = let same : at + 0 * 9 ≡ at = omega arith in rw same (both-left (dotOk (dotAt s at)) (all dotOk (dotsAt n s (at + 9))) ok)
+dots-each s (suc n) at zero h ok = let same : at + 0 * dotSize ≡ at = omega arith in rw same (both-left (dotOk (dotAt s at)) (all dotOk (dotsAt n s (at + dotSize))) ok)
 dots-each s (suc n) at (suc i) h ok =
-    let same : at + suc i * 9 ≡ at + 9 + i * 9 = omega arith in
-    rw same (dots-each s n (at + 9) i (omega arith) (both-right (dotOk (dotAt s at)) (all dotOk (dotsAt n s (at + 9))) ok))
+    let same : at + suc i * dotSize ≡ at + dotSize + i * dotSize = omega arith in
+    rw same (dots-each s n (at + dotSize) i (omega arith) (both-right (dotOk (dotAt s at)) (all dotOk (dotsAt n s (at + dotSize))) ok))
 
 -- a dot of a context keeps its rule
-pub context-dot : (context : List ℕ) (i : ℕ) → ContextFits context → i < length context / 9 → dotOk (dotAt context (i * 9)) ≡ true
+pub context-dot : (context : List ℕ) (i : ℕ) → ContextFits context → i < length context / dotSize → dotOk (dotAt context (i * dotSize)) ≡ true
 unfolding dotsOf
 context-dot context i fits h =
-    let same : 0 + i * 9 ≡ i * 9 = omega arith in
-    rw same at (dots-each context (length context / 9) 0 i h (ascending-valid (dotsOf context) (fits .ascends)))
+    let same : 0 + i * dotSize ≡ i * dotSize = omega arith in
+    rw same at (dots-each context (length context / dotSize) 0 i h (ascending-valid (dotsOf context) (fits .ascends)))

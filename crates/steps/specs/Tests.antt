@@ -1,7 +1,7 @@
 -- What the steps test and count on: tests of the table as the code groups them, and the changes that they make.
 use Prim.Native.Nat.{ℕ, _+_, _*_, _%_, _≤_}
 use mathlib.Core.Bool.{Bool, true, false, not, _&&_}
-use mathlib.Core.List.{List, [], _∷_, _++_}
+use mathlib.Core.List.{List, [], _∷_}
 use mathlib.Core.Path.{_≡_}
 use lib.Dec.{isEq, leb, ltb}
 use lib.ListN.{length, take}
@@ -9,39 +9,22 @@ use Rattle.wire.specs.Lists.{keep, member, insertAll}
 use Rattle.wire.specs.Bytes.{Bytes}
 use Rattle.dots.specs.Answer.{Refusals}
 use Rattle.dots.specs.declared.Answer.the-variants.{Damaged, BadName, BadDot, OwnAhead, CounterEnd, TooFar, TombstoneFull, StoreFull, OutputShort}
-use Rattle.dots.specs.Wire.{dotsBytes, dotsOf}
+use Rattle.dots.specs.Wire.{dotsBytes, dotsOf, dotSize, tombstoneSize}
 use Rattle.dots.specs.declared.Actor.{Actor}
 use Rattle.dots.specs.declared.Dot.{Dot}
 use Rattle.dots.specs.Names.{Label, labelOk}
-use Rattle.dots.specs.Dots.{Context, actorOk, dotOf, dotOk, compareActors, compareDots, ascendingDots, contextMost}
+use Rattle.dots.specs.Dots.{Context, dotOf, dotOk, compareActors, compareDots, ascendingDots, contextMost, tombstoneMost}
 use Rattle.clock.specs.Row.{windowWidth}
-use Rattle.clock.specs.Clock.{sees, rowAt, clockOk, near}
+use Rattle.clock.specs.Clock.{sees, rowAt, near}
 use Rattle.replica.specs.Machine.{apply, ifUnseen}
-use Rattle.keys.specs.Entry.{prefix}
-use Rattle.store.specs.Place.{Passed, Judged}
 use Rattle.store.specs.Valid.{storeMost}
 use Rattle.calls.specs.declared.State.{State}
 use Rattle.calls.specs.declared.Tombstone.{Tombstone}
-use Rattle.calls.specs.State.{clockModel, Machine, nameOf, tombstoneDots, view}
-use Rattle.calls.specs.Damage.{stateNameOk, tombstoneMost, tombstoneOk, damaged}
+use Rattle.calls.specs.State.{clockModel, Machine, tombstoneDots, view, Sized}
+use Rattle.calls.specs.Damage.{damaged}
 use Rattle.calls.specs.Effect.{padded}
-
--- the state of these parts
-abbrev pub stateFrom : Actor → Bytes → ℕ → List ℕ → Bytes → ℕ → ℕ → State
-stateFrom own name len words tombstone count used =
-    record { actor = own; name = record { bytes = name; len = len }; clock = record { words = words }; tombstone = record { bytes = tombstone; count = count }; used = used }
-
--- the first `low` used bytes come before all keys of a label
-abbrev pub LowPart : State → Bytes → Label → ℕ → Type 0
-LowPart st store label low = Passed (length (nameOf st)) (prefix (nameOf st) ++ label) (take (st .used) store) low
-
--- what one pass over state and store tells: 0 if they are damaged, else one more than the length of such a part
-abbrev pub Judges : State → Bytes → Label → ℕ → Type 0
-Judges st store label r = Judged (not (damaged st store)) (length (nameOf st)) (prefix (nameOf st) ++ label) (take (st .used) store) r
-
--- what is undamaged whatever the store is
-unfoldable pub stateOk : State → Bool
-stateOk st = actorOk (st .actor .number) && (stateNameOk st && (clockOk windowWidth (st .actor .number) (st .clock .words) && tombstoneOk st))
+use Rattle.keys.specs.Key.{labelKeyFixed}
+use Rattle.judging.specs.Judging.{stateOk}
 
 -- a dot of the own actor above the own base
 abbrev pub aheadOf : Actor → ℕ → Dot → Bool
@@ -60,18 +43,18 @@ nextTombstone st context = insertAll compareDots (keep (sees (st .clock .words))
 
 -- what the code counts on: the tombstone of an undamaged state, and a context
 pub record Tombstoned (bytes : Bytes) (count : ℕ) : Type 0 where
-  pub size : length bytes ≡ 1152
+  pub size : length bytes ≡ tombstoneSize
   pub few : count ≤ tombstoneMost
-  pub ascends : ascendingDots (dotsOf (take (count * 9) bytes)) ≡ true
+  pub ascends : ascendingDots (dotsOf (take (count * dotSize) bytes)) ≡ true
 
 -- the same, with nothing but zeros past its dots
 pub record Padded (bytes : Bytes) (count : ℕ) : Type 0 where
   pub tomb : Tombstoned bytes count
-  pub zeros : bytes ≡ padded 1152 (dotsBytes (dotsOf (take (count * 9) bytes)))
+  pub zeros : bytes ≡ padded tombstoneSize (dotsBytes (dotsOf (take (count * dotSize) bytes)))
 
 pub record ContextFits (context : Bytes) : Type 0 where
-  pub whole : length context % 9 ≡ 0
-  pub short : length context ≤ 9 * contextMost
+  pub whole : length context % dotSize ≡ 0
+  pub short : length context ≤ dotSize * contextMost
   pub ascends : ascendingDots (dotsOf context) ≡ true
 
 -- the refusals that are tested on any arguments, and those that are tested where none of these holds
@@ -95,7 +78,7 @@ removeTests words tombstone context short =
 
 -- those of a state, for a store of so many bytes
 abbrev pub addLate : State → ℕ → Label → Dot → Context → Bool → Refusals
-addLate st size label d context short = addTests (st .clock .words) (tombstoneDots st) d context (ltb size (st .used + (st .name .len + length label + 15))) short
+addLate st size label d context short = addTests (st .clock .words) (tombstoneDots st) d context (ltb size (st .used + (st .name .len + length label + labelKeyFixed))) short
 
 abbrev pub removeLate : State → Context → Bool → Refusals
 removeLate st context short = removeTests (st .clock .words) (tombstoneDots st) context short
@@ -129,9 +112,8 @@ pub record MayApply (st : State) (store label context : Bytes) (d : Dot) : Type 
   pub whole : damaged st store ≡ false
   pub joins : MayJoin st context d
   pub labelled : labelOk label ≡ true
-  pub room-for : sees (st .clock .words) d ≡ false → st .used + (st .name .len + length label + 15) ≤ length store
-  pub name-size : length (st .name .bytes) ≡ 16
-  pub words-size : length (st .clock .words) ≡ 32
+  pub room-for : sees (st .clock .words) d ≡ false → st .used + (st .name .len + length label + labelKeyFixed) ≤ length store
+  pub sized : Sized st
 
 -- the machine's state after it
 abbrev pub applied : State → Bytes → Label → Context → Dot → Machine

@@ -17,8 +17,8 @@ use Rattle.wire.proofs.Tests.{both}
 use Rattle.wire.proofs.ByteOrder.{starts-split}
 use Rattle.wire.proofs.Parts.{rest-part, drop-take}
 use Rattle.wire.proofs.Fields.{bytes-take}
-use Rattle.dots.specs.Names.{Name, nameOk}
-use Rattle.dots.specs.Dots.{actorOf, dotOf}
+use Rattle.dots.specs.Names.{Name, nameOk, labelMost}
+use Rattle.dots.specs.Dots.{actorOf, dotOf, actorMost}
 use Rattle.dots.specs.Entries.{Entry}
 use Rattle.keys.specs.Entry.{prefix}
 use Rattle.keys.specs.Tests.{labelAfter, entryAfter, entryBy}
@@ -28,6 +28,7 @@ use Rattle.clock.specs.Clock.{sees}
 use Rattle.store.specs.Cut.{keyLength}
 use Rattle.store.specs.Valid.{seenEntry, keyOk}
 use Rattle.store.specs.Front.{frontLength, afterLength}
+use Rattle.keys.specs.Key.{suffixSize, prefixFixed}
 
 -- ---- a front of bytes: its first 0, and what it begins with
 
@@ -48,32 +49,32 @@ starts-take (x ∷ a) (suc m) (y ∷ s) h = ap (λ b. eqb y x && b) (starts-take
 -- ---- what follows the prefix
 
 module _ (words : List ℕ) (t : Bytes) (n : ℕ) (label : n ≡ zeroAt t) where
-  pub after-short : length t < n + 11 → 0 ≡ afterLength words t
+  pub after-short : length t < n + suffixSize → 0 ≡ afterLength words t
   unfolding afterLength labelAfter
   after-short h =
-      let all : take (zeroAt t + 11) t ≡ t = take-all (zeroAt t + 11) t (omega arith) in
-      rw (all, ne-eqb (length t) (zeroAt t + 11) (λ e. omega arith))
+      let all : take (zeroAt t + suffixSize) t ≡ t = take-all (zeroAt t + suffixSize) t (omega arith) in
+      rw (all, ne-eqb (length t) (zeroAt t + suffixSize) (λ e. omega arith))
 
   -- the tests on the bytes themselves
-  module _ (fits : n + 11 ≤ length t) (event : ℕ) (counter : event ≡ numberAt 8 t (n + 3)) where
+  module _ (fits : n + suffixSize ≤ length t) (event : ℕ) (counter : event ≡ numberAt 8 t (n + 3)) where
     abbrev shape : Bool
-    shape = leb 1 n && leb n 32 && (leb 1 (getD t (n + 1) 0) && leb (getD t (n + 1) 0) 16) && eqb (getD t (n + 2) 0) 0 && leb 1 event
+    shape = leb 1 n && leb n labelMost && (leb 1 (getD t (n + 1) 0) && leb (getD t (n + 1) 0) actorMost) && eqb (getD t (n + 2) 0) 0 && leb 1 event
 
-    tested : afterLength words t ≡ cond (shape && sees words (dotOf (actorOf (getD t (n + 1) 0)) event)) (n + 11) 0
+    tested : afterLength words t ≡ cond (shape && sees words (dotOf (actorOf (getD t (n + 1) 0)) event)) (n + suffixSize) 0
     unfolding afterLength labelAfter
     tested =
-        let u : Bytes = take (n + 11) t in
-        let zero-at : zeroAt u ≡ n = zeroAt-take (n + 11) t ∙ omega arith in
-        let whole : length u ≡ n + 11 = length-take-le (n + 11) t fits in
-        let eight : n + 11 - (n + 3) ≡ 8 = omega arith in
-        let number : numberAt 8 u (n + 3) ≡ event = rw (drop-take (n + 3) (n + 11) t, eight, take-take 8 8 (drop (n + 3) t) (omega arith)) (sym counter) in
-        rw (← label, zero-at, whole, eq-eqb (n + 11) (n + 11) refl, number, getD-take (n + 11) t (n + 1) 0 (omega arith), getD-take (n + 11) t (n + 2) 0 (omega arith))
+        let u : Bytes = take (n + suffixSize) t in
+        let zero-at : zeroAt u ≡ n = zeroAt-take (n + suffixSize) t ∙ omega arith in
+        let whole : length u ≡ n + suffixSize = length-take-le (n + suffixSize) t fits in
+        let eight : n + suffixSize - (n + 3) ≡ 8 = omega arith in
+        let number : numberAt 8 u (n + 3) ≡ event = rw (drop-take (n + 3) (n + suffixSize) t, eight, take-take 8 8 (drop (n + 3) t) (omega arith)) (sym counter) in
+        rw (← label, zero-at, whole, eq-eqb (n + suffixSize) (n + suffixSize) refl, number, getD-take (n + suffixSize) t (n + 1) 0 (omega arith), getD-take (n + suffixSize) t (n + 2) 0 (omega arith))
 
     pub after-failed : not shape ≡ true → 0 ≡ afterLength words t
     after-failed h = sym (tested ∙ rw (not-true shape h))
 
     module _ (h : not shape ≡ false) (seen : Bool) (known : seen ≡ sees words (dotOf (actorOf (getD t (n + 1) 0)) event)) where
-      pub after-passed : seen ≡ true → n + 11 ≡ afterLength words t
+      pub after-passed : seen ≡ true → n + suffixSize ≡ afterLength words t
       after-passed s = sym (tested ∙ rw (not-false shape h, ← known, s))
 
       pub after-unseen : seen ≡ false → 0 ≡ afterLength words t
@@ -81,7 +82,7 @@ module _ (words : List ℕ) (t : Bytes) (n : ℕ) (label : n ≡ zeroAt t) where
 
 -- ---- the whole key
 
-pub starts-fit : (name s : Bytes) → startsWith (prefix name) s ≡ true → length name + 4 ≤ length s
+pub starts-fit : (name s : Bytes) → startsWith (prefix name) s ≡ true → length name + prefixFixed ≤ length s
 starts-fit name s h = omega (arith, length-append (prefix name) (drop (length (prefix name)) s), ap length (starts-split (prefix name) s h), length-prefix name)
 
 seen-cond : (words : List ℕ) (b : Bool) (e : Entry) → seenEntry words (cond b (some e) none) ≡ (b && sees words (e .dot))
@@ -91,46 +92,46 @@ seen-cond words false e = refl
 module _ (name : Name) (words : List ℕ) (s : Bytes) where
   -- what follows the prefix, the first key, and what follows the prefix in it
   t : Bytes
-  t = drop (length name + 4) s
+  t = drop (length name + prefixFixed) s
 
   k : Bytes
   k = take (keyLength (length name) s) s
 
   u : Bytes
   unfolding t
-  u = take (zeroAt t + 11) t
+  u = take (zeroAt t + suffixSize) t
 
-  key-tail : drop (length name + 4) k ≡ u
+  key-tail : drop (length name + prefixFixed) k ≡ u
   unfolding t k u keyLength
   key-tail =
       let len : ℕ = keyLength (length name) s in
-      let p : ℕ = length name + 4 in
+      let p : ℕ = length name + prefixFixed in
       let size : length t ≡ length s - p = length-drop p s in
-      drop-take p len s ∙ elim (decLe (length s) (p + (zeroAt t + 11))) [
+      drop-take p len s ∙ elim (decLe (length s) (p + (zeroAt t + suffixSize))) [
         | yes h ↦
             let most : length t ≤ len - p = omega arith in
-            let most′ : length t ≤ zeroAt t + 11 = omega arith in
-            take-all (len - p) t most ∙ sym (take-all (zeroAt t + 11) t most′)
-        | no h ↦ let same : len - p ≡ zeroAt t + 11 = omega arith in rw same
+            let most′ : length t ≤ zeroAt t + suffixSize = omega arith in
+            take-all (len - p) t most ∙ sym (take-all (zeroAt t + suffixSize) t most′)
+        | no h ↦ let same : len - p ≡ zeroAt t + suffixSize = omega arith in rw same
       ]
 
   key-starts : startsWith (prefix name) k ≡ startsWith (prefix name) s
   unfolding k keyLength
   key-starts =
       let len : ℕ = keyLength (length name) s in
-      elim (decLe (length name + 4) len) [
+      elim (decLe (length name + prefixFixed) len) [
         | yes h ↦ starts-take (prefix name) len s (rw length-prefix h)
         | no h ↦ let all : length s ≤ len = omega arith in rw (take-all len s all)
       ]
 
   -- a key that keeps the rules has all its bytes
-  room : startsWith (prefix name) s ≡ true → labelAfter u ≡ true → length name + 4 + (zeroAt t + 11) ≤ length s
+  room : startsWith (prefix name) s ≡ true → labelAfter u ≡ true → length name + prefixFixed + (zeroAt t + suffixSize) ≤ length s
   unfolding t u labelAfter
   room begins h =
-      let front : length name + 4 ≤ length s = starts-fit name s begins in
-      let whole : length u ≡ zeroAt u + 11 = eqb-true (length u) (zeroAt u + 11) (search both) in
-      let ends : zeroAt u ≡ zeroAt t = zeroAt-take (zeroAt t + 11) t ∙ omega arith in
-      omega (arith, length-take (zeroAt t + 11) t, length-drop (length name + 4) s)
+      let front : length name + prefixFixed ≤ length s = starts-fit name s begins in
+      let whole : length u ≡ zeroAt u + suffixSize = eqb-true (length u) (zeroAt u + suffixSize) (search both) in
+      let ends : zeroAt u ≡ zeroAt t = zeroAt-take (zeroAt t + suffixSize) t ∙ omega arith in
+      omega (arith, length-take (zeroAt t + suffixSize) t, length-drop (length name + prefixFixed) s)
 
   module _ (named : nameOk name ≡ true) (small : (i : ℕ) → Fits w8 (getD s i 0)) where
     key-tests : keyOk name words k ≡ (startsWith (prefix name) s && (labelAfter u && sees words (entryAfter u .dot)))
@@ -150,14 +151,14 @@ module _ (name : Name) (words : List ℕ) (s : Bytes) where
         is-prefixed : startsWith (prefix name) s ≡ true
         is-prefixed = sym is-begun ∙ not-false r d
 
-        pub front-fits : length name + 4 ≤ length s
+        pub front-fits : length name + prefixFixed ≤ length s
         front-fits = starts-fit name s is-prefixed
 
-        module _ (len : ℕ) (read : len ≡ afterLength words (take (length s - (length name + 4)) (drop (length name + 4) s))) where
+        module _ (len : ℕ) (read : len ≡ afterLength words (take (length s - (length name + prefixFixed)) (drop (length name + prefixFixed) s))) where
           passes : Bool
           passes = labelAfter u && sees words (entryAfter u .dot)
 
-          len-is : len ≡ cond passes (zeroAt t + 11) 0
+          len-is : len ≡ cond passes (zeroAt t + suffixSize) 0
           unfolding afterLength t u passes
           len-is = rw rest-part at read
 
@@ -168,7 +169,7 @@ module _ (name : Name) (words : List ℕ) (s : Bytes) where
           pub front-refused : len ≡ 0 → 0 ≡ frontLength name words s
           front-refused e = sym (front-is ∙ by-tests passes len-is)
             where
-              by-tests : (b : Bool) → len ≡ cond b (zeroAt t + 11) 0 → cond b (keyLength (length name) s) 0 ≡ 0
+              by-tests : (b : Bool) → len ≡ cond b (zeroAt t + suffixSize) 0 → cond b (keyLength (length name) s) 0 ≡ 0
               by-tests true f = absurd (omega arith)
               by-tests false f = refl
 
@@ -176,19 +177,19 @@ module _ (name : Name) (words : List ℕ) (s : Bytes) where
             passed : passes ≡ true
             passed = by-tests passes len-is
               where
-                by-tests : (b : Bool) → len ≡ cond b (zeroAt t + 11) 0 → b ≡ true
+                by-tests : (b : Bool) → len ≡ cond b (zeroAt t + suffixSize) 0 → b ≡ true
                 by-tests true f = refl
                 by-tests false f = absurd (some f)
 
-            pub front-end : length s < 2 ^ 64 → Fits w64 (length name + 4 + len)
+            pub front-end : length s < 2 ^ 64 → Fits w64 (length name + prefixFixed + len)
             unfolding passes
             front-end h =
                 let all : passes ≡ true = passed in
                 omega (arith, room is-prefixed (search both), rw passed at len-is)
 
-            pub front-passed : length name + 4 + len ≡ frontLength name words s
+            pub front-passed : length name + prefixFixed + len ≡ frontLength name words s
             unfolding passes t keyLength
             front-passed =
                 let all : passes ≡ true = passed in
-                let full : length name + 4 + (zeroAt t + 11) ≤ length s = room is-prefixed (search both) in
+                let full : length name + prefixFixed + (zeroAt t + suffixSize) ≤ length s = room is-prefixed (search both) in
                 sym (front-is ∙ rw passed (omega (arith, rw passed at len-is)))

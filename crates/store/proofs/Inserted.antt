@@ -22,6 +22,7 @@ use Rattle.store.specs.Place.{lengthWhile, lowerThan, placeIn, insertedE
 use Rattle.store.proofs.Cut.{endToEnd-keysOf}
 use Rattle.store.proofs.RoundTrip.{keys-written}
 use Rattle.store.proofs.Placed.{not-lower}
+use Rattle.keys.specs.Key.{labelKeyFixed}
 
 -- the keys at the front that pass a test end within the bytes
 pub while-within : (test : Bytes → Bool) (ks : List Bytes) → lengthWhile test ks ≤ length (endToEnd ks)
@@ -70,7 +71,7 @@ module _ (name : Name) (e : Entry) (ok : entryOk e ≡ true) where
     key-inserted =
         rw (keys-written name es valid) (put-among es valid (untrue (member compareEntries e es) (λ t. new (member-sound compareEntries entries es (pass t)))))
 
-    pub length-inserted : length (storeBytes name (insert compareEntries e es)) ≡ length (storeBytes name es) + (length name + length (e .label) + 15)
+    pub length-inserted : length (storeBytes name (insert compareEntries e es)) ≡ length (storeBytes name es) + (length name + length (e .label) + labelKeyFixed)
     unfolding p
     length-inserted =
         let bytes : Bytes = storeBytes name es in
@@ -79,7 +80,7 @@ module _ (name : Name) (e : Entry) (ok : entryOk e ≡ true) where
 
     -- the whole store: the used bytes, and the rest as it was
     module _ (store : Bytes) (used : ℕ) (held : take used store ≡ storeBytes name es) where
-      pub entry-inserted : insertedEntry name store used e ≡ storeBytes name (insert compareEntries e es) ++ drop (used + (length name + length (e .label) + 15)) store
+      pub entry-inserted : insertedEntry name store used e ≡ storeBytes name (insert compareEntries e es) ++ drop (used + (length name + length (e .label) + labelKeyFixed)) store
       unfolding insertedAt p
       entry-inserted =
           let within : p ≤ used = omega (arith, while-within (lowerThan (entryKey name e)) (keysOf (length name) (storeBytes name es)), ap length (endToEnd-keysOf (length name) (storeBytes name es)), ap length held, length-take used store) in
@@ -88,11 +89,11 @@ module _ (name : Name) (e : Entry) (ok : entryOk e ≡ true) where
           rw (held, before, after, length-entry-key, ← append-assoc (entryKey name e), ← append-assoc (take p (storeBytes name es)), key-inserted)
 
       module _ (fits : used ≤ length store) where
-        size : length (storeBytes name (insert compareEntries e es)) ≡ used + (length name + length (e .label) + 15)
+        size : length (storeBytes name (insert compareEntries e es)) ≡ used + (length name + length (e .label) + labelKeyFixed)
         size = length-inserted ∙ rw (← held, length-take-le used store fits)
 
-        pub inserted-used : take (used + (length name + length (e .label) + 15)) (insertedEntry name store used e) ≡ storeBytes name (insert compareEntries e es)
-        inserted-used = rw entry-inserted (take-at (storeBytes name (insert compareEntries e es)) (drop (used + (length name + length (e .label) + 15)) store) (used + (length name + length (e .label) + 15)) size)
+        pub inserted-used : take (used + (length name + length (e .label) + labelKeyFixed)) (insertedEntry name store used e) ≡ storeBytes name (insert compareEntries e es)
+        inserted-used = rw entry-inserted (take-at (storeBytes name (insert compareEntries e es)) (drop (used + (length name + length (e .label) + labelKeyFixed)) store) (used + (length name + length (e .label) + labelKeyFixed)) size)
 
-        pub inserted-rest : drop (used + (length name + length (e .label) + 15)) (insertedEntry name store used e) ≡ drop (used + (length name + length (e .label) + 15)) store
-        inserted-rest = rw entry-inserted (drop-at (storeBytes name (insert compareEntries e es)) (drop (used + (length name + length (e .label) + 15)) store) (used + (length name + length (e .label) + 15)) size)
+        pub inserted-rest : drop (used + (length name + length (e .label) + labelKeyFixed)) (insertedEntry name store used e) ≡ drop (used + (length name + length (e .label) + labelKeyFixed)) store
+        inserted-rest = rw entry-inserted (drop-at (storeBytes name (insert compareEntries e es)) (drop (used + (length name + length (e .label) + labelKeyFixed)) store) (used + (length name + length (e .label) + labelKeyFixed)) size)

@@ -1,18 +1,19 @@
 -- The front part of keys that comes before all keys that begin alike, and what one pass over the keys tells of it. Assumes nothing.
 use Prim.Native.Nat.{ℕ, _+_, _-_, _<_}
-use mathlib.Core.Path.{_≡_, refl, sym, ap, _∙_}
-use mathlib.Core.Bool.{Bool, true, false, not, cond, false≢true}
+use mathlib.Core.Path.{_≡_, refl, sym, _∙_}
+use mathlib.Core.Bool.{Bool, true, false, cond, false≢true}
 use mathlib.Core.List.{_++_}
 use native.Mathlib.Nat.{zero-add}
 use native.Mathlib.Omega.{arith}
 use lib.Dec.{ltb}
 use lib.ListN.{length, take, drop}
-use borrow.Author.Tests.{lt-ltb, ltb-true, ne-eqb}
+use borrow.Author.Tests.{lt-ltb, ltb-true}
 use Rattle.wire.specs.Bytes.{Bytes}
 use Rattle.wire.proofs.Parts.{rest-part, size-part}
 use Rattle.store.specs.Cut.{keyLength}
 use Rattle.store.specs.Place.{lowerThan, Passed, Judged}
 use Rattle.store.proofs.Walk.{end-within, every-later, while-passed}
+use Rattle.store.specs.declared.Judgement.the-variants.{Damaged, Sound}
 
 -- no bytes
 pub passed-none : (n : ℕ) (start keys : Bytes) → Passed n start keys 0
@@ -48,11 +49,8 @@ module _ (n : ℕ) (start keys : Bytes) (at len : ℕ) (more : at < length keys)
 -- ---- what the pass tells
 
 module _ (n : ℕ) (start keys : Bytes) where
-  pub judged-bad : (ok : Bool) → false ≡ ok → Judged ok n start keys 0
-  judged-bad ok e = record { found = ap not e; passed = λ t. absurd (false≢true (e ∙ t)) }
+  pub judged-bad : (ok : Bool) → false ≡ ok → Judged ok n start keys Damaged
+  judged-bad ok e = record { found = e; passed = λ t. absurd (false≢true (e ∙ t)) }
 
-  pub judged-good : (ok : Bool) (k : ℕ) → true ≡ ok → Passed n start keys k → Judged ok n start keys (k + 1)
-  judged-good ok k e p = record { found = ne-eqb (k + 1) 0 (λ z. absurd (omega arith)) ∙ ap not e; passed = λ t. rw same p }
-    where
-      same : k + 1 - 1 ≡ k
-      same = omega arith
+  pub judged-good : (ok : Bool) (k : ℕ) → true ≡ ok → Passed n start keys k → Judged ok n start keys (Sound k)
+  judged-good ok k e p = record { found = e; passed = λ t. p }

@@ -27,15 +27,16 @@ use Rattle.store.proofs.Cut.{keyLength-pos, keyLength-le, keysOf-step}
 use Rattle.store.proofs.RoundTrip.{label-size, key-read}
 use Rattle.store.proofs.FirstNumbers.{none-before, number-part}
 use Rattle.store.proofs.Below.{number-below}
+use Rattle.keys.specs.Key.{prefixFixed}
 
 -- the bounds of a key: it has 12 bytes at least from its label on, and ends within the keys
 pub record Bounds (name : Name) (keys : Bytes) (at len : ℕ) : Type 0 where
-  pub tail-within : at + (length name + 4) + 12 ≤ at + len
+  pub tail-within : at + (length name + prefixFixed) + 12 ≤ at + len
   pub end-within : at + len ≤ length keys
 
 -- the rules of keys that come after one with the bytes b from its label on
 pub restOk : Name → List ℕ → Bytes → List Bytes → Bool
-restOk name words b ks = all (keyOk name words) ks && ascendsFrom compareBytes b (map (drop (length name + 4)) ks)
+restOk name words b ks = all (keyOk name words) ks && ascendsFrom compareBytes b (map (drop (length name + prefixFixed)) ks)
 
 regroup : (a b c d : Bool) → (a && b && (c && d)) ≡ (a && (c && (b && d)))
 regroup false b c d = refl
@@ -46,7 +47,7 @@ regroup true false false d = refl
 module _ (name : Name) (words : List ℕ) where
   -- the bytes of a key from its label on
   abbrev tail : Bytes → Bytes
-  tail k = drop (length name + 4) k
+  tail k = drop (length name + prefixFixed) k
 
   -- a key of the set is the prefix and its tail
   record Parts (k : Bytes) : Type 0 where
@@ -58,7 +59,7 @@ module _ (name : Name) (words : List ℕ) where
       let read = key-read name words k ok in
       let e : Entry = keySays (length name) k in
       let split : prefix name ++ (e .label ++ suffix (e .dot)) ≡ k = sym (entry-key-parts name e) ∙ read .key in
-      let rest : tail k ≡ e .label ++ suffix (e .dot) = ap tail (sym split) ∙ drop-at (prefix name) (e .label ++ suffix (e .dot)) (length name + 4) (length-prefix name) in
+      let rest : tail k ≡ e .label ++ suffix (e .dot) = ap tail (sym split) ∙ drop-at (prefix name) (e .label ++ suffix (e .dot)) (length name + prefixFixed) (length-prefix name) in
       record { whole = rw rest split; more = rw (rest, length-append, length-suffix) (omega (arith, label-size name e (read .valid) .0)) }
 
   -- every key of an undamaged store begins with the prefix of the set
@@ -136,24 +137,24 @@ module _ (name : Name) (words : List ℕ) where
       bounds h =
           let front : length (key at) ≤ len = rw (length-take, is-size) (omega arith) in
           record {
-            tail-within = omega (arith, parts (key at) passes .more, length-drop (length name + 4) (key at));
+            tail-within = omega (arith, parts (key at) passes .more, length-drop (length name + prefixFixed) (key at));
             end-within = omega (arith, is-size, keyLength-le (length name) (drop at keys), length-drop at keys);
           }
 
       -- the key from its label on, as it is lent
-      tail-is : take (at + len - (at + (length name + 4))) (drop (at + (length name + 4)) keys) ≡ tail (key at)
+      tail-is : take (at + len - (at + (length name + prefixFixed))) (drop (at + (length name + prefixFixed)) keys) ≡ tail (key at)
       unfolding key
       tail-is =
-          let left : at + len - (at + (length name + 4)) ≡ size at - (length name + 4) = omega (arith, is-size) in
-          rw (left, drop-take (length name + 4) (size at) (drop at keys), drop-drop (length name + 4) at keys)
+          let left : at + len - (at + (length name + prefixFixed)) ≡ size at - (length name + prefixFixed) = omega (arith, is-size) in
+          rw (left, drop-take (length name + prefixFixed) (size at) (drop at keys), drop-drop (length name + prefixFixed) at keys)
 
       -- a key whose number is below that of a label comes before all keys that begin with the prefix and the label
-      pub key-below : AreBytes keys → (label tail′ : Bytes) → AreBytes label → at < length keys → numberAt 8 keys (at + (length name + 4)) < labelNumber label
+      pub key-below : AreBytes keys → (label tail′ : Bytes) → AreBytes label → at < length keys → numberAt 8 keys (at + (length name + prefixFixed)) < labelNumber label
           → lowerThan ((prefix name ++ label) ++ tail′) (take len (drop at keys)) ≡ true
       unfolding key size
       key-below small label tail′ small′ h lower =
           let p = parts (key at) passes in
-          let n = length name + 4 in
+          let n = length name + prefixFixed in
           let number : numberAt 8 (tail (key at)) 0 ≡ numberAt 8 keys (at + n) = ap (λ (t : Bytes). numberAt 8 t 0) (sym tail-is) ∙ (rw add-zero at (number-part keys (at + n) (at + len - (at + n)) 8 0 (omega (arith, bounds h .tail-within)))) in
           let below : isLt (compareBytes (tail (key at)) (label ++ tail′)) ≡ true =
           number-below (tail (key at)) label tail′ (bytes-drop (key at) n (bytes-take (drop at keys) (size at) (bytes-drop keys at small))) small′ (omega (arith, p .more)) (rw number lower) in
@@ -179,12 +180,12 @@ module _ (name : Name) (words : List ℕ) where
             by-test true f = absurd (omega (arith, keyLength-pos (length name) (drop at keys) (rw length-drop (omega arith))))
             by-test false f = refl
 
-        module _ (some : len ≡ 0 → ⊥) (o : Bool) (ordered : o ≡ isLt (compareBytes (take (at - label) (drop label keys)) (take (at + len - (at + (length name + 4))) (drop (at + (length name + 4)) keys)))) where
+        module _ (some : len ≡ 0 → ⊥) (o : Bool) (ordered : o ≡ isLt (compareBytes (take (at - label) (drop label keys)) (take (at + len - (at + (length name + prefixFixed))) (drop (at + (length name + prefixFixed)) keys)))) where
           is-ordered : o ≡ isLt (compareBytes (take (at - label) (drop label keys)) (tail (key at)))
           is-ordered = rw (tail-is at len read some) at ordered
 
           pub out-of-order : not o ≡ true → false ≡ usedOk name words keys
           out-of-order d = sym (cut ∙ rw (passes at len read some, ← is-ordered, not-true o d))
 
-          pub passed : not o ≡ false → usedOk name words keys ≡ restOk name words (take (at + len - (at + (length name + 4))) (drop (at + (length name + 4)) keys)) (keysOf (length name) (drop (at + len) keys))
+          pub passed : not o ≡ false → usedOk name words keys ≡ restOk name words (take (at + len - (at + (length name + prefixFixed))) (drop (at + (length name + prefixFixed)) keys)) (keysOf (length name) (drop (at + len) keys))
           passed d = cut ∙ rw (passes at len read some, ← is-ordered, not-false o d, tail-is at len read some, is-size at len read some)

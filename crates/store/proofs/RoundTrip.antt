@@ -23,6 +23,7 @@ use Rattle.store.specs.Cut.{endToEnd, storeBytes, keyLength, keysAfter, 
 use Rattle.store.specs.Valid.{seenEntry, keyOk, usedOk, keysFit}
 use Rattle.store.proofs.Cut.{keysOf-first, endToEnd-keysOf}
 use Rattle.store.proofs.KeySays.{entry-said, entries-said}
+use Rattle.keys.specs.Key.{labelKeyFixed, prefixFixed}
 
 -- ---- one key
 
@@ -36,8 +37,8 @@ module _ (name : Name) (e : Entry) (ok : entryOk e ≡ true) where
   unfolding keyLength suffix entryOk textOk
   key-length rest =
       let whole : entryKey name e ++ rest ≡ prefix name ++ (e .label ++ (suffix (e .dot) ++ rest)) = rw (entry-key-parts, append-assoc, append-assoc) in
-      let label : zeroAt (drop (length name + 4) (entryKey name e ++ rest)) ≡ length (e .label) =
-      rw (whole, drop-at (prefix name) (e .label ++ (suffix (e .dot) ++ rest)) (length name + 4) (length-prefix name)) (zeroAt-ended (e .label) _ (search both)) in
+      let label : zeroAt (drop (length name + prefixFixed) (entryKey name e ++ rest)) ≡ length (e .label) =
+      rw (whole, drop-at (prefix name) (e .label ++ (suffix (e .dot) ++ rest)) (length name + prefixFixed) (length-prefix name)) (zeroAt-ended (e .label) _ (search both)) in
       omega (arith, label, length-append (entryKey name e) rest, length-entry-key name e)
 
 -- a key that passes is its entry's
@@ -84,13 +85,13 @@ module _ (name : Name) where
   keys-ascend (e ∷ es) ok = keys-ascend-from e es (search both) (search both)
 
   -- each has room for a label
-  all-fit : (es : List Entry) → all entryOk es ≡ true → all (λ (k : Bytes). between (length name + 16) (length name + 15 + labelMost) (length k)) (map (entryKey name) es) ≡ true
+  all-fit : (es : List Entry) → all entryOk es ≡ true → all (λ (k : Bytes). between (length name + (labelKeyFixed + 1)) (length name + labelKeyFixed + labelMost) (length k)) (map (entryKey name) es) ≡ true
   unfolding all
   all-fit [] ok = refl
   all-fit (e ∷ es) ok =
-      let size : length (entryKey name e) ≡ length name + length (e .label) + 15 = length-entry-key name e in
+      let size : length (entryKey name e) ≡ length name + length (e .label) + labelKeyFixed = length-entry-key name e in
       let label = label-size name e (search both) in
-      rw (le-leb (length name + 16) (length (entryKey name e)) (omega arith), le-leb (length (entryKey name e)) (length name + 15 + labelMost) (omega arith)) (all-fit es (search both))
+      rw (le-leb (length name + (labelKeyFixed + 1)) (length (entryKey name e)) (omega arith), le-leb (length (entryKey name e)) (length name + labelKeyFixed + labelMost) (omega arith)) (all-fit es (search both))
 
   pub keys-fit : (es : List Entry) → all entryOk es ≡ true → keysFit (length name) (storeBytes name es) ≡ true
   unfolding keysFit

@@ -8,6 +8,7 @@ use Rattle.dots.specs.Names.{Name, Label}
 use Rattle.dots.specs.Dots.{actorOf, dotOf}
 use Rattle.dots.specs.Entries.{Entry, entry}
 use Rattle.keys.specs.Entry.{entryKey}
+use Rattle.keys.specs.Key.{labelKeyFixed, suffixSize, prefixFixed}
 
 unfoldable pub endToEnd : List Bytes → Bytes
 endToEnd [] = []
@@ -19,7 +20,7 @@ storeBytes name es = endToEnd (map (entryKey name) es)
 
 -- how long the key at the front is, by its label's closing 00; at most all the bytes
 unfoldable pub keyLength : ℕ → Bytes → ℕ
-keyLength n bytes = min (length bytes) (n + 15 + zeroAt (drop (n + 4) bytes))
+keyLength n bytes = min (length bytes) (n + labelKeyFixed + zeroAt (drop (n + prefixFixed) bytes))
 
 -- bytes cut into keys, after `skip` bytes
 unfoldable pub keysAfter : ℕ → ℕ → Bytes → List Bytes
@@ -32,10 +33,10 @@ keysOf n bytes = keysAfter n zero bytes
 
 -- label and dot of a key: the label stands between the type byte and the last 11 bytes, the actor 10 bytes before the end, the counter 8
 unfoldable pub keyLabel : ℕ → Bytes → Label
-keyLabel n k = partAt k (n + 4) (length k - (n + 15))
+keyLabel n k = partAt k (n + prefixFixed) (length k - (n + labelKeyFixed))
 
 unfoldable pub keyDot : Bytes → Dot
-keyDot k = dotOf (actorOf (byteAt k (length k - 10))) (numberAt 8 k (length k - 8))
+keyDot k = dotOf (actorOf (byteAt k (length k - (suffixSize - 1)))) (numberAt 8 k (length k - 8))
 
 abbrev pub keySays : ℕ → Bytes → Entry
 keySays n k = entry (keyLabel n k) (keyDot k)

@@ -10,6 +10,7 @@ use Rattle.keys.specs.Tests.{labelAfter, entryAfter}
 use Rattle.clock.specs.Clock.{sees}
 use Rattle.store.specs.Cut.{keyLength}
 use Rattle.store.specs.Valid.{keyOk}
+use Rattle.keys.specs.Key.{suffixSize}
 
 -- how long the key at the front is, if it is a label key of the set whose dot the clock sees; else 0
 unfoldable pub frontLength : Name → List ℕ → Bytes → ℕ
@@ -18,7 +19,7 @@ frontLength name words s = let len = keyLength (length name) s in cond (keyOk na
 -- the same for what follows the prefix: label, 00, actor, 00 and counter
 unfoldable pub afterLength : List ℕ → Bytes → ℕ
 afterLength words t =
-    let len = zeroAt t + 11 in
+    let len = zeroAt t + suffixSize in
     cond (labelAfter (take len t) && sees words (entryAfter (take len t) .dot)) len 0
 
 -- the numbers in the first 8 bytes and in the next 4 of the bytes from a place to another, which are none or 12 at least

@@ -1,15 +1,16 @@
 -- Where a key goes, and the stretch of a label's keys.
 use Prim.Native.Nat.{ℕ, _+_, _-_, _≤_}
-use mathlib.Core.Bool.{Bool, true, not, cond}
+use mathlib.Core.Bool.{Bool, true, false, not, cond}
 use mathlib.Core.List.{List, [], _∷_, _++_}
 use mathlib.Core.Path.{_≡_}
-use lib.Dec.{eqb}
 use lib.ListN.{length, take, drop, replicate}
 use Rattle.wire.specs.Lists.{isLt, all}
 use Rattle.wire.specs.Bytes.{Bytes, compareBytes, startsWith, insertedAt, fromBigEndian}
 use Rattle.dots.specs.Names.{Name, Label}
 use Rattle.dots.specs.Entries.{Entry}
 use Rattle.keys.specs.Entry.{prefix, entryKey}
+use Rattle.store.specs.declared.Judgement.{Judgement}
+use Rattle.store.specs.declared.Judgement.the-variants.{Damaged, Sound}
 use Rattle.store.specs.Cut.{endToEnd, keysOf}
 
 -- how many bytes the keys at the front take that pass a test
@@ -33,16 +34,25 @@ pub record Placed (key : Bytes) (ks : List Bytes) (p : ℕ) : Type 0 where
   pub lower : all (lowerThan key) before ≡ true
   pub others : all (λ (k : Bytes). not (lowerThan key k)) after ≡ true
 
--- the first k bytes are whole keys that come before all keys that begin with `start`
+-- the first k bytes come before all keys that begin with `start`: such a key has its place past them, and what holds of all keys holds of those past them
 pub record Passed (n : ℕ) (start keys : Bytes) (k : ℕ) : Type 0 where
   pub within : k ≤ length keys
   pub placed : (tail : Bytes) → placeIn (start ++ tail) (keysOf n keys) ≡ k + placeIn (start ++ tail) (keysOf n (drop k keys))
   pub rest : (test : Bytes → Bool) → all test (keysOf n keys) ≡ true → all test (keysOf n (drop k keys)) ≡ true
 
--- what one pass over keys tells: 0 if they are not in order, else one more than how many bytes come before all keys that begin with `start`
-pub record Judged (ok : Bool) (n : ℕ) (start keys : Bytes) (r : ℕ) : Type 0 where
-  pub found : eqb r 0 ≡ not ok
-  pub passed : ok ≡ true → Passed n start keys (r - 1)
+-- a judgement: whether it is no damage, and how many bytes at the front it tells of
+abbrev pub isSound : Judgement → Bool
+isSound Damaged = false
+isSound (Sound low) = true
+
+abbrev pub frontOf : Judgement → ℕ
+frontOf Damaged = 0
+frontOf (Sound low) = low
+
+-- what one pass over keys tells: whether they are in order, and then how many bytes come before all keys that begin with `start`
+pub record Judged (ok : Bool) (n : ℕ) (start keys : Bytes) (r : Judgement) : Type 0 where
+  pub found : isSound r ≡ ok
+  pub passed : ok ≡ true → Passed n start keys (frontOf r)
 
 -- the first 8 bytes of a label, with 0s after a shorter one, and the number in them
 abbrev pub firstEight : Label → Bytes

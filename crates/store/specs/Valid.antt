@@ -13,6 +13,7 @@ use Rattle.dots.specs.Entries.{Entry}
 use Rattle.keys.specs.Entry.{keyEntry}
 use Rattle.clock.specs.Clock.{sees}
 use Rattle.store.specs.Cut.{keysOf}
+use Rattle.keys.specs.Key.{labelKeyFixed}
 
 abbrev pub storeMost : ℕ
 storeMost = 65536
@@ -33,4 +34,4 @@ storeOk name words store used = leb (length store) storeMost && (leb used (lengt
 
 -- every key has room for a label of 1 to 32 bytes: what a walk over an undamaged store counts on
 unfoldable pub keysFit : ℕ → Bytes → Bool
-keysFit n bytes = all (λ (k : Bytes). between (n + 16) (n + 15 + labelMost) (length k)) (keysOf n bytes)
+keysFit n bytes = all (λ (k : Bytes). between (n + (labelKeyFixed + 1)) (n + labelKeyFixed + labelMost) (length k)) (keysOf n bytes)

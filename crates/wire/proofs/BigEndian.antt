@@ -30,11 +30,6 @@ from-lt (b ∷ bs) small = rw pow-succ' (digits-lt (small 0) (from-lt bs (λ i. 
 pub from-fits : (bs : List ℕ) → AreBytes bs → length bs ≤ 8 → fromBigEndian bs < 2 ^ 64
 from-fits bs small h = le-trans (from-lt bs small) (pow-le-pow-right (lit< tt) h)
 
--- one digit more still fits 8 bytes
-pub room-for-one : {n i : ℕ} → n < 256 ^ i → i < 8 → n * 256 + 255 < 2 ^ 64
-room-for-one {n} {i} h k =
-    le-trans (digits-lt h (lit< tt)) (rw (← pow-suc) (pow-le-pow-right (lit< tt) k))
-
 -- four bytes, as the code reads them
 pub from-four : (a b c d : ℕ) → ((a * 256 + b) * 256 + c) * 256 + d ≡ fromBigEndian (a ∷ b ∷ c ∷ d ∷ [])
 unfolding fromBigEndian

@@ -6,8 +6,8 @@ use Prim.Native.Nat.{ℕ, _+_, _^_, _≤_, _<_}
 use native.Mathlib.Nat.{add-zero, zero-add}
 use native.Mathlib.Decide.{decLt}
 use native.Mathlib.Omega.{arith}
-use lib.ListN.{length, take, drop, getD, length-drop, take-append-drop, length-take, length-append, List·getD-append, List·getD-eq-default}
-use lib.Seq.{take-at, drop-at, drop-drop, getD-drop, getD-take, getD-append-add, length-take-le}
+use lib.ListN.{length, take, drop, getD, length-drop, take-append-drop, length-take, length-append, List·getD-eq-default}
+use lib.Seq.{take-at, drop-at, drop-drop, getD-drop, getD-take, length-take-le}
 use Rattle.wire.specs.Bytes.{AreBytes, bigEndian, fromBigEndian, numberAt, putAt}
 use Rattle.wire.proofs.Parts.{drop-step}
 use Rattle.wire.proofs.BigEndian.{length-bigEndian, from-bigEndian, bigEndian-from}
@@ -43,15 +43,6 @@ bytes-take s n small i = elim (decLt i n) [
   | yes h ↦ rw (getD-take n s i 0 h) (small i)
   | no h ↦ let past : length (take n s) ≤ i = rw length-take (omega arith) in rw (List·getD-eq-default (take n s) 0 past) (omega arith)
 ]
-
-pub bytes-left : (a b : List ℕ) → AreBytes (a ++ b) → AreBytes a
-bytes-left a b small i = elim (decLt i (length a)) [
-  | yes h ↦ rw List·getD-append at (small i)
-  | no h ↦ let past : length a ≤ i = omega arith in rw (List·getD-eq-default a 0 past) (omega arith)
-]
-
-pub bytes-right : (a b : List ℕ) → AreBytes (a ++ b) → AreBytes b
-bytes-right a b small i = rw getD-append-add at (small (length a + i))
 
 -- a part read as a number and written again, in either byte order
 module _ (write : ℕ → ℕ → List ℕ) (read : List ℕ → ℕ) (back : (bs : List ℕ) → AreBytes bs → write (length bs) (read bs) ≡ bs) where

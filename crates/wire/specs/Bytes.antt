@@ -5,7 +5,7 @@ use mathlib.Core.Path.{_≡_}
 use mathlib.Core.Bool.{Bool, true, false, _&&_}
 use mathlib.Core.List.{List, [], _∷_, _++_}
 use lib.Dec.{leb, eqb}
-use lib.ListN.{length, take, drop, getD, replicate}
+use lib.ListN.{length, take, drop, getD}
 use Rattle.wire.specs.Lists.{compareLists}
 use Rattle.wire.specs.declared.Span.{Span}
 
@@ -90,10 +90,6 @@ putAt s at x = take at s ++ (x ++ drop (at + length x) s)
 -- x inserted at a place of the first `used` bytes: what follows it there moves up, the rest is as it was
 unfoldable pub insertedAt : Bytes → ℕ → ℕ → Bytes → Bytes
 insertedAt s used at x = take at s ++ (x ++ (partAt s at (used - at) ++ drop (used + length x) s))
-
--- n bytes dropped at a place of the first `used`: what follows them there moves down, the freed bytes become 0, the rest is as it was
-unfoldable pub droppedAt : Bytes → ℕ → ℕ → ℕ → Bytes
-droppedAt s used at n = take at s ++ (partAt s (at + n) (used - (at + n)) ++ (replicate n 0 ++ drop used s))
 
 -- ---- parts that are handed back
 

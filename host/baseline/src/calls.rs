@@ -1,7 +1,7 @@
 //! Set-up and the calls that change a controller.
 
 use crate::answer::*;
-use crate::block::{self, Block, STATE_SIZE};
+use crate::block::{self, Block};
 use crate::check::Sound;
 use crate::dot::{actor_keeps_rule, dots, is_context, Dot};
 use crate::effect::Effect;
@@ -9,6 +9,7 @@ use crate::keys::{label_keeps_rule, name_keeps_rule};
 use crate::message::Message;
 use crate::store;
 use crate::tombstone::{self, Tombstone};
+use limits::STATE_SIZE;
 
 /// What a call gives that writes to an output.
 #[derive(Clone, Copy, PartialEq, Eq, Debug)]

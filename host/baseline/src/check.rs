@@ -1,14 +1,12 @@
 //! Whether a state with its store is undamaged, and what it says, read once a call.
 
 use crate::answer::DAMAGED;
-use crate::block::{self, Block, NAME_MAX};
+use crate::block::{self, Block};
 use crate::clock::Clock;
 use crate::dot::{actor_keeps_rule, Dot};
 use crate::keys::{name_keeps_rule, Prefix};
 use crate::{store, tombstone};
-
-/// The longest store.
-const STORE_MAX: usize = 65_536;
+use limits::{NAME_MAX, STORE_MAX};
 
 /// What an undamaged state says.
 pub struct Sound {

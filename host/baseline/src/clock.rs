@@ -1,10 +1,7 @@
 //! The clock: a base and a window for each actor.
 
-use crate::dot::{Dot, ACTOR_MAX};
-
-/// How far above its base a row reaches.
-const REACH: u64 = 64;
-const ROWS: usize = ACTOR_MAX as usize;
+use crate::dot::Dot;
+use limits::{ACTORS, ROW_SIZE, WINDOW};
 
 /// Events 1 to `base` are seen, and `base` + 1 + i where bit i of the window is set.
 #[derive(Clone, Copy)]
@@ -23,7 +20,7 @@ impl Row {
     fn sees(self, event: u64) -> bool {
         match event.checked_sub(self.base) {
             None | Some(0) => true,
-            Some(above @ 1..=REACH) => self.window >> (above - 1) & 1 == 1,
+            Some(above @ 1..=WINDOW) => self.window >> (above - 1) & 1 == 1,
             Some(_) => false,
         }
     }
@@ -34,7 +31,7 @@ impl Row {
         if above == 0 {
             return true;
         }
-        if above > REACH {
+        if above > WINDOW {
             return false;
         }
         self.window |= 1 << (above - 1);
@@ -48,24 +45,24 @@ impl Row {
 /// The rows of all actors.
 #[derive(Clone)]
 pub struct Clock {
-    rows: [Row; ROWS],
+    rows: [Row; ACTORS],
 }
 
 impl Clock {
     /// Reads the rows. None if one breaks its rule.
     pub fn read(bytes: &[u8]) -> Option<Clock> {
-        let mut rows = [Row { base: 0, window: 0 }; ROWS];
+        let mut rows = [Row { base: 0, window: 0 }; ACTORS];
         let mut sound = true;
-        for (row, words) in rows.iter_mut().zip(bytes.as_chunks::<16>().0) {
+        for (row, words) in rows.iter_mut().zip(bytes.as_chunks::<ROW_SIZE>().0) {
             let words = u128::from_be_bytes(*words);
-            row.base = (words >> 64) as u64;
+            row.base = (words >> u64::BITS) as u64;
             row.window = words as u64;
             sound &= row.keeps_rule();
         }
         sound.then_some(Clock { rows })
     }
 
-    /// The row of an actor from 1 to 16.
+    /// The row of an actor that keeps its rule.
     pub fn row(&self, actor: u8) -> Row {
         self.rows[usize::from(actor) - 1]
     }

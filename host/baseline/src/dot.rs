@@ -1,11 +1,6 @@
 //! Dots as numbers and as nine bytes, and bytes that hold dots in ascending order.
 
-/// Bytes of a dot: the actor, then the counter, highest byte first.
-pub const DOT_SIZE: usize = 9;
-/// The largest number of dots in a context.
-const CONTEXT_MAX: usize = 16;
-/// The largest actor.
-pub const ACTOR_MAX: u8 = 16;
+use limits::{ACTOR_MAX, CONTEXT_MAX, DOT_SIZE};
 
 /// A dot, ordered by actor, then counter.
 #[derive(Clone, Copy, PartialEq, Eq, PartialOrd, Ord, Debug)]
@@ -65,5 +60,5 @@ pub fn ascend(bytes: &[u8]) -> bool {
 
 /// Whether these bytes are a context.
 pub fn is_context(bytes: &[u8]) -> bool {
-    bytes.len() <= CONTEXT_MAX * DOT_SIZE && ascend(bytes)
+    bytes.len() <= CONTEXT_MAX && ascend(bytes)
 }

@@ -6,9 +6,9 @@ use crate::block::{self, Block};
 use crate::check::Sound;
 use crate::clock::Clock;
 use crate::dot::{dots, Dot};
-use crate::keys::{DOT_END, KEY_MAX};
 use crate::store;
-use crate::tombstone::{self, Tombstone, SLOTS};
+use crate::tombstone::{self, Tombstone};
+use limits::{KEY_END, KEY_MAX, TOMBSTONE_DOTS_MAX};
 
 /// A context and an add, and what they make of the clock.
 pub struct Effect<'a> {
@@ -35,11 +35,11 @@ impl<'a> Effect<'a> {
         }
         let dead = Tombstone::of(block, sound.count);
         let joins = dots(context).filter(|dot| sound.clock.sees(*dot) && !dead.has(*dot));
-        if sound.count + joins.count() > SLOTS {
+        if sound.count + joins.count() > TOMBSTONE_DOTS_MAX {
             return Err(TOMBSTONE_FULL);
         }
         let is_new = add.is_some_and(|(_, dot)| !sound.clock.sees(dot));
-        let key = add.map_or(0, |(label, _)| sound.prefix.len() + label.len() + DOT_END);
+        let key = add.map_or(0, |(label, _)| sound.prefix.len() + label.len() + KEY_END);
         if is_new && sound.used + key > room {
             return Err(STORE_FULL);
         }

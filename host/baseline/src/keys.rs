@@ -2,19 +2,13 @@
 //! and writing a key of any type.
 
 use crate::answer::{BAD_DOT, BAD_NAME, BAD_SHAPE, DONE, OUTPUT_SHORT};
-use crate::block::NAME_MAX;
 use crate::calls::Wrote;
 use crate::dot::{actor_keeps_rule, Dot};
+use limits::{KEY_END, KEY_FRONT, KEY_MAX, KEY_MIDDLE, LABEL_MAX, NAME_MAX};
 
-/// The longest label.
-pub const LABEL_MAX: usize = 32;
-/// Bytes of a key after its label: 00, actor, 00, counter.
-pub const DOT_END: usize = 11;
-/// The longest key.
-pub const KEY_MAX: usize = NAME_MAX + LABEL_MAX + FRONT.len() + 2 + DOT_END;
-
-const FRONT: [u8; 2] = [2, 1];
-const PREFIX_MAX: usize = NAME_MAX + FRONT.len() + 2;
+/// Magic and version.
+const FRONT: [u8; KEY_FRONT] = [2, 1];
+const PREFIX_MAX: usize = KEY_FRONT + NAME_MAX + KEY_MIDDLE;
 
 pub fn name_keeps_rule(name: &[u8]) -> bool {
     (1..=NAME_MAX).contains(&name.len()) && !name.contains(&0)
@@ -48,7 +42,7 @@ impl Prefix {
     }
 
     pub fn name(&self) -> &[u8] {
-        &self.bytes[FRONT.len()..self.len - 2]
+        &self.bytes[KEY_FRONT..self.len - KEY_MIDDLE]
     }
 
     /// Writes a label key to the front of these bytes; its length.
@@ -56,23 +50,23 @@ impl Prefix {
         let end = self.len + label.len();
         out[..self.len].copy_from_slice(self.bytes());
         out[self.len..end].copy_from_slice(label);
-        out[end..end + DOT_END].copy_from_slice(&dot_end(dot));
-        end + DOT_END
+        out[end..end + KEY_END].copy_from_slice(&dot_end(dot));
+        end + KEY_END
     }
 }
 
 /// Writes magic, version, name, 00 and type; their length.
 fn write_front(out: &mut [u8], name: &[u8], kind: u8) -> usize {
-    let end = FRONT.len() + name.len();
-    out[..FRONT.len()].copy_from_slice(&FRONT);
-    out[FRONT.len()..end].copy_from_slice(name);
-    out[end..end + 2].copy_from_slice(&[0, kind]);
-    end + 2
+    let end = KEY_FRONT + name.len();
+    out[..KEY_FRONT].copy_from_slice(&FRONT);
+    out[KEY_FRONT..end].copy_from_slice(name);
+    out[end..end + KEY_MIDDLE].copy_from_slice(&[0, kind]);
+    end + KEY_MIDDLE
 }
 
 /// The bytes of a label key from the 00 after its label on.
-fn dot_end(dot: Dot) -> [u8; DOT_END] {
-    let mut end = [0; DOT_END];
+fn dot_end(dot: Dot) -> [u8; KEY_END] {
+    let mut end = [0; KEY_END];
     end[1] = dot.actor;
     end[3..].copy_from_slice(&dot.counter.to_be_bytes());
     end
@@ -159,7 +153,7 @@ fn parse(bytes: &[u8]) -> Option<KeyRead> {
         (b'c' | b'd', [actor, 0]) if label.is_empty() => (*actor, 0, 0),
         (b'e', [actor, 0, counter @ ..]) if label_keeps_rule(label) => {
             let counter = u64::from_be_bytes(counter.try_into().ok()?);
-            (*actor, counter, FRONT.len() + name.len() + 2)
+            (*actor, counter, KEY_FRONT + name.len() + KEY_MIDDLE)
         }
         _ => return None,
     };
@@ -169,7 +163,7 @@ fn parse(bytes: &[u8]) -> Option<KeyRead> {
     sound.then_some(KeyRead {
         answer: DONE,
         kind: *kind,
-        name_at: FRONT.len(),
+        name_at: KEY_FRONT,
         name_len: name.len(),
         label_at,
         label_len: label.len(),

@@ -20,7 +20,7 @@ mod store;
 mod tombstone;
 
 pub use answer::*;
-pub use block::{Block, STATE_SIZE};
+pub use block::Block;
 pub use calls::{compact, own_add, own_remove, set_up, take_in, Wrote};
 pub use keys::{read_key, write_key, KeyRead};
 pub use message::{read_message, MessageRead};

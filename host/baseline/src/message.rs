@@ -1,15 +1,14 @@
 //! The bytes of messages, both ways.
 
 use crate::answer::{BAD_DOT, BAD_NAME, BAD_SHAPE, BAD_VERSION, DONE, NO_MARK};
-use crate::dot::{dots, is_context, Dot, DOT_SIZE};
+use crate::dot::{dots, is_context, Dot};
 use crate::keys::{label_keeps_rule, name_keeps_rule};
+use limits::{DOT_SIZE, MESSAGE_HEAD};
 
 const MARK: &[u8] = b"PTL";
 const VERSION: &[u8] = &[0, 1];
 const ADD: u8 = b'a';
 const REMOVE: u8 = b'r';
-/// Bytes before the name: mark, version, kind and the name's length.
-const HEAD: usize = 7;
 
 /// A message whose fields keep their rules. A remove has no `add`.
 #[derive(Clone, Copy)]
@@ -65,7 +64,7 @@ impl<'a> Message<'a> {
     /// The number of bytes that `write` writes.
     pub fn length(&self) -> usize {
         let add = self.add.map_or(0, |(label, _)| 1 + label.len() + DOT_SIZE);
-        HEAD + self.name.len() + add + 1 + self.context.len()
+        MESSAGE_HEAD + self.name.len() + add + 1 + self.context.len()
     }
 
     /// Writes the message to bytes of its length.
@@ -125,13 +124,13 @@ pub fn read_message(bytes: &[u8]) -> MessageRead {
     };
     read.answer = DONE;
     read.kind = REMOVE;
-    read.name_at = HEAD;
+    read.name_at = MESSAGE_HEAD;
     read.name_len = message.name.len();
     read.context_len = message.context.len();
     read.context_at = bytes.len() - message.context.len();
     if let Some((label, dot)) = message.add {
         read.kind = ADD;
-        read.label_at = HEAD + message.name.len() + 1;
+        read.label_at = MESSAGE_HEAD + message.name.len() + 1;
         read.label_len = label.len();
         read.actor = dot.actor;
         read.counter = dot.counter;

@@ -3,10 +3,10 @@
 use crate::answer::{BAD_NAME, DONE, OUTPUT_SHORT};
 use crate::block::Block;
 use crate::check::Sound;
-use crate::dot::DOT_SIZE;
 use crate::keys::label_keeps_rule;
 use crate::store::{keys, stretch, Key};
 use crate::tombstone::Tombstone;
+use limits::{DOT_COUNT_SIZE, DOT_SIZE, LINE_FIXED};
 
 /// What listing gives.
 #[derive(Clone, Copy, PartialEq, Eq, Debug, Default)]
@@ -56,7 +56,7 @@ fn listing_length<'a>(live: impl Iterator<Item = Key<'a>>) -> usize {
     for key in live {
         if key.label() != label {
             label = key.label();
-            length += label.len() + 3;
+            length += label.len() + LINE_FIXED;
         }
         length += DOT_SIZE;
     }
@@ -76,10 +76,10 @@ fn write_listing<'a>(live: impl Iterator<Item = Key<'a>>, out: &mut [u8]) -> (us
             number_at = at + 1 + label.len();
             out[at] = label.len() as u8;
             out[at + 1..number_at].copy_from_slice(label);
-            at = number_at + 2;
+            at = number_at + DOT_COUNT_SIZE;
         }
         number += 1;
-        out[number_at..number_at + 2].copy_from_slice(&number.to_be_bytes());
+        out[number_at..number_at + DOT_COUNT_SIZE].copy_from_slice(&number.to_be_bytes());
         out[at..at + DOT_SIZE].copy_from_slice(&key.dot().to_bytes());
         at += DOT_SIZE;
     }

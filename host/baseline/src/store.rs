@@ -3,8 +3,8 @@
 
 use crate::clock::Clock;
 use crate::dot::Dot;
-use crate::keys::{DOT_END, LABEL_MAX};
-use crate::tombstone::{Tombstone, SLOTS};
+use crate::tombstone::Tombstone;
+use limits::{KEY_END, LABEL_MAX, TOMBSTONE_DOTS_MAX};
 
 /// A label key of a sound store.
 #[derive(Clone, Copy)]
@@ -17,7 +17,7 @@ pub struct Key<'a> {
 
 impl<'a> Key<'a> {
     pub fn label(self) -> &'a [u8] {
-        &self.tail[..self.tail.len() - DOT_END]
+        &self.tail[..self.tail.len() - KEY_END]
     }
 
     pub fn dot(self) -> Dot {
@@ -27,7 +27,7 @@ impl<'a> Key<'a> {
 
 /// The dot at the end of these bytes. None where a 00 before or in it is missing.
 fn dot_of(tail: &[u8]) -> Option<Dot> {
-    let [0, actor, 0, counter @ ..] = *tail.last_chunk::<DOT_END>()? else {
+    let [0, actor, 0, counter @ ..] = *tail.last_chunk::<KEY_END>()? else {
         return None;
     };
     let counter = u64::from_be_bytes(counter);
@@ -55,7 +55,7 @@ pub fn is_sound(used: &[u8], prefix: &[u8], clock: &Clock) -> bool {
 fn first_key<'a>(bytes: &'a [u8], prefix: &[u8]) -> Option<(&'a [u8], Dot, &'a [u8])> {
     let body = bytes.strip_prefix(prefix)?;
     let label = body.iter().position(|byte| *byte == 0)?;
-    let (tail, rest) = body.split_at_checked(label + DOT_END)?;
+    let (tail, rest) = body.split_at_checked(label + KEY_END)?;
     let dot = dot_of(tail)?;
     let sound = (1..=LABEL_MAX).contains(&label) && dot.keeps_rule();
     sound.then_some((tail, dot, rest))
@@ -83,7 +83,7 @@ impl<'a> Iterator for Keys<'a> {
     fn next(&mut self) -> Option<Key<'a>> {
         let body = self.rest.get(self.prefix..)?;
         let label = body.iter().position(|byte| *byte == 0)?;
-        let (tail, rest) = body.split_at_checked(label + DOT_END)?;
+        let (tail, rest) = body.split_at_checked(label + KEY_END)?;
         let at = self.at;
         self.at += self.prefix + tail.len();
         self.rest = rest;
@@ -104,7 +104,7 @@ pub fn stretch(used: &[u8], prefix: usize, label: &[u8]) -> (usize, usize) {
     let same = keys(&used[start..], prefix).take_while(|key| key.label() == label);
     (
         start,
-        start + same.count() * (prefix + label.len() + DOT_END),
+        start + same.count() * (prefix + label.len() + KEY_END),
     )
 }
 
@@ -121,8 +121,8 @@ pub fn drop_dead(
     used: usize,
     prefix: usize,
     dead: Tombstone,
-) -> (usize, [bool; SLOTS]) {
-    let mut dropped = [false; SLOTS];
+) -> (usize, [bool; TOMBSTONE_DOTS_MAX]) {
+    let mut dropped = [false; TOMBSTONE_DOTS_MAX];
     // Keys from `run` to `at` are kept and not yet moved down to `kept`.
     let (mut kept, mut run, mut at) = (0, 0, 0);
     while let Some(key) = keys(&store[at..used], prefix).next() {

@@ -2,12 +2,10 @@
 
 use crate::block::{self, Block};
 use crate::clock::Clock;
-use crate::dot::{self, ascend, dots, Dot, DOT_SIZE};
+use crate::dot::{self, ascend, dots, Dot};
+use limits::{DOT_SIZE, TOMBSTONE_DOTS_MAX, TOMBSTONE_SIZE};
 
-/// The largest number of dots.
-pub const SLOTS: usize = 128;
-
-static ZEROS: [u8; SLOTS * DOT_SIZE] = [0; SLOTS * DOT_SIZE];
+static ZEROS: [u8; TOMBSTONE_SIZE] = [0; TOMBSTONE_SIZE];
 
 /// The dots of an undamaged tombstone.
 #[derive(Clone, Copy)]
@@ -41,7 +39,7 @@ impl<'a> Tombstone<'a> {
 /// The number of dots. None if the tombstone breaks a rule or has a dot that the clock lacks.
 pub fn check(block: &Block, clock: &Clock) -> Option<usize> {
     let count = usize::try_from(block::count(block)).ok()?;
-    if count > SLOTS {
+    if count > TOMBSTONE_DOTS_MAX {
         return None;
     }
     let (used, rest) = block::tombstone_room(block).split_at(count * DOT_SIZE);
@@ -62,7 +60,7 @@ pub fn insert(block: &mut Block, count: usize, dot: Dot) -> usize {
 }
 
 /// Takes out the dots of these slots and fills up with zeros. Gives the number of dots.
-pub fn remove(block: &mut Block, count: usize, dropped: &[bool; SLOTS]) -> usize {
+pub fn remove(block: &mut Block, count: usize, dropped: &[bool; TOMBSTONE_DOTS_MAX]) -> usize {
     let room = block::tombstone_room_mut(block);
     let mut kept = 0;
     for slot in (0..count).filter(|slot| !dropped[*slot]) {

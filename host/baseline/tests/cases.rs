@@ -1,6 +1,10 @@
 //! The cases of the rules ("Both sides of the line") and the slips, on the baseline.
 
 use baseline::*;
+use limits::{
+    ACTOR_MAX, DOT_SIZE, KEY_MAX, NUMBER_SIZE, ROW_SIZE, STATE_ACTOR_AT, STATE_CLOCK_AT,
+    STATE_COUNT_AT, STATE_NAME_AT, STATE_SIZE, STATE_TOMBSTONE_AT, STATE_USED_AT, STORE_MAX,
+};
 
 /// What lent bytes hold that no call has written.
 const FILL: u8 = 0xA5;
@@ -80,26 +84,29 @@ impl Rack {
     }
 
     fn number(&self, at: usize) -> u64 {
-        let bytes = self.block[at..at + 8].try_into().expect("eight bytes");
+        let bytes = self.block[at..at + NUMBER_SIZE]
+            .try_into()
+            .expect("eight bytes");
         u64::from_be_bytes(bytes)
     }
 
     fn set_number(&mut self, at: usize, number: u64) {
-        self.block[at..at + 8].copy_from_slice(&number.to_be_bytes());
+        self.block[at..at + NUMBER_SIZE].copy_from_slice(&number.to_be_bytes());
     }
 
     fn row(&self, actor: usize) -> (u64, u64) {
-        let at = 25 + 16 * (actor - 1);
-        (self.number(at), self.number(at + 8))
+        let at = STATE_CLOCK_AT + ROW_SIZE * (actor - 1);
+        (self.number(at), self.number(at + NUMBER_SIZE))
     }
 
     /// Dots in the tombstone, and used bytes.
     fn sizes(&self) -> (u64, u64) {
-        (self.number(1433), self.number(1441))
+        (self.number(STATE_COUNT_AT), self.number(STATE_USED_AT))
     }
 
     fn tombstone(&self) -> &[u8] {
-        &self.block[281..281 + 9 * self.number(1433) as usize]
+        let length = DOT_SIZE * self.number(STATE_COUNT_AT) as usize;
+        &self.block[STATE_TOMBSTONE_AT..STATE_TOMBSTONE_AT + length]
     }
 }
 
@@ -190,7 +197,7 @@ fn keys_of_the_other_types() {
         assert_eq!((read.label_at, read.label_len, read.counter), (0, 0, 0));
     }
     let answer = |kind, name, actor, counter| {
-        let mut out = [FILL; 63];
+        let mut out = [FILL; KEY_MAX];
         write_key(kind, name, B7, actor, counter, &mut out).answer
     };
     assert_eq!(answer(b'x', b"", 0, 0), 4);
@@ -327,7 +334,7 @@ fn own_dots_to_come() {
     assert_eq!(one.add(B7, &[(1, 2)]).0, 6);
     assert_eq!(one.add(B7, &[(1, 3)]).0, 8);
     assert_eq!(one.remove(&[(1, 2)]).0, 8);
-    one.set_number(25, u64::MAX);
+    one.set_number(STATE_CLOCK_AT, u64::MAX);
     assert_eq!(one.add(B7, &[]).0, 9);
     assert_eq!(one.remove(&[(1, u64::MAX)]).0, 0);
 }
@@ -339,8 +346,8 @@ fn a_store_that_is_full() {
     let mut one = Rack::with_store(1, 19);
     assert_eq!(one.add(B7, &[]).0, 0);
     assert_eq!(one.add(B7, &[]).0, 12);
-    assert_eq!(Rack::with_store(1, 65_536).compact(), 0);
-    assert_eq!(Rack::with_store(1, 65_537).compact(), 1);
+    assert_eq!(Rack::with_store(1, STORE_MAX).compact(), 0);
+    assert_eq!(Rack::with_store(1, STORE_MAX + 1).compact(), 1);
 }
 
 #[test]
@@ -416,13 +423,13 @@ fn damage_is_answered_1_by_every_call() {
     one.add(b"B8", &[]);
     one.remove(&[(1, 1)]);
     let harms: [(usize, u8); 7] = [
-        (0, 17),
-        (1, 0),
-        (4, 1),
-        (40, 1),
-        (290, 1),
-        (281, 2),
-        (1448, 37),
+        (STATE_ACTOR_AT, ACTOR_MAX + 1),
+        (STATE_NAME_AT, 0),
+        (STATE_NAME_AT + 3, 1),
+        (STATE_CLOCK_AT + ROW_SIZE - 1, 1),
+        (STATE_TOMBSTONE_AT + DOT_SIZE, 1),
+        (STATE_TOMBSTONE_AT, 2),
+        (STATE_SIZE - 1, 37),
     ];
     for (at, value) in harms {
         let mut harmed = one.clone();

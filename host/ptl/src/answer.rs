@@ -1,5 +1,6 @@
 //! The answers of the table "When a controller says no", with their numbers and words.
 
+use limits::{ANSWERS, STORE_MAX, TOMBSTONE_DOTS_MAX, WINDOW};
 use std::fmt;
 
 /// What a call answers. `Done` is 0; every other one is a refusal, which changes nothing.
@@ -22,9 +23,30 @@ pub enum Answer {
     OutputShort = 13,
 }
 
+/// When each answer is given; `#` stands for the limit that the answer speaks of.
+const WORDS: [&str; ANSWERS] = [
+    "done",
+    "the state is damaged, or the store is longer than #",
+    "message under 5 bytes or wrong mark",
+    "version other than 1",
+    "a message's kind is unknown, its fields run past the end or bytes are left over; or bytes \
+     given as a key are none",
+    "set name, label, or an actor given to set-up or to a key, breaks its rule",
+    "a dot, a context or a key's counter breaks its rule, or an add's context has its own dot",
+    "message is for another set",
+    "an offered dot of this controller's own actor, but for the one an own add takes, is above \
+     its own base",
+    "own add with the own base at the largest counter",
+    "among all seen and offered dots together, one lies more than # above its actor's unbroken \
+     run from 1",
+    "the tombstone would pass # dots",
+    "a key must be stored and used length + key length exceeds the store",
+    "the output buffer is shorter than what must be written",
+];
+
 impl Answer {
     /// All answers, each at its number.
-    pub const ALL: [Answer; 14] = [
+    pub const ALL: [Answer; ANSWERS] = [
         Answer::Done,
         Answer::Damaged,
         Answer::NoMark,
@@ -51,39 +73,14 @@ impl Answer {
     }
 
     /// When the answer is given, in the table's words.
-    pub fn words(self) -> &'static str {
-        match self {
-            Answer::Done => "done",
-            Answer::Damaged => "the state is damaged, or the store is longer than 65,536",
-            Answer::NoMark => "message under 5 bytes or wrong mark",
-            Answer::BadVersion => "version other than 1",
-            Answer::BadShape => {
-                "a message's kind is unknown, its fields run past the end or bytes are left over; \
-                 or bytes given as a key are none"
-            }
-            Answer::BadName => {
-                "set name, label, or an actor given to set-up or to a key, breaks its rule"
-            }
-            Answer::BadDot => {
-                "a dot, a context or a key's counter breaks its rule, or an add's context has its \
-                 own dot"
-            }
-            Answer::OtherSet => "message is for another set",
-            Answer::OwnAhead => {
-                "an offered dot of this controller's own actor, but for the one an own add takes, \
-                 is above its own base"
-            }
-            Answer::CounterEnd => "own add with the own base at the largest counter",
-            Answer::TooFar => {
-                "among all seen and offered dots together, one lies more than 64 above its \
-                 actor's unbroken run from 1"
-            }
-            Answer::TombstoneFull => "the tombstone would pass 128 dots",
-            Answer::StoreFull => {
-                "a key must be stored and used length + key length exceeds the store"
-            }
-            Answer::OutputShort => "the output buffer is shorter than what must be written",
-        }
+    pub fn words(self) -> String {
+        let limit = match self {
+            Answer::Damaged => STORE_MAX,
+            Answer::TooFar => WINDOW as usize,
+            Answer::TombstoneFull => TOMBSTONE_DOTS_MAX,
+            _ => 0,
+        };
+        WORDS[usize::from(self.number())].replace('#', &limit.to_string())
     }
 
     /// What was asked for if the answer is `Done`, else the refusal.

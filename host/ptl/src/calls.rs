@@ -74,6 +74,11 @@ pub struct MessageRead {
     pub context: Span,
 }
 
+/// The version of the interface that the library has.
+pub fn version() -> u32 {
+    unsafe { ffi::ptl_version() }
+}
+
 /// Set-up. A refusal too changes the state: to zero throughout.
 pub fn set_up(actor: u8, name: &[u8], state: &mut State) -> u8 {
     let state = state.block_mut();
@@ -287,8 +292,9 @@ mod tests {
     //! The library on blocks that are no state because of their size: refused by 1, all kept.
 
     use crate::ffi;
+    use limits::STATE_SIZE;
 
-    const SIZES: [usize; 4] = [0, 1448, 1450, 2898];
+    const SIZES: [usize; 4] = [0, STATE_SIZE - 1, STATE_SIZE + 1, 2 * STATE_SIZE];
     const FILL: u8 = 0xA5;
 
     /// A block of this size, the front of which is a sound state where there is room for one.

@@ -4,7 +4,7 @@
 mod tests;
 
 use crate::engine::Engine;
-use crate::script::{parse, reply_line, run, Rack, Why, LINE_MAX, RACKS};
+use crate::script::{parse, Line, Rack, Why, Worded, LINE_MAX, RACKS};
 use std::io::{self, BufRead, BufReader, Read, Write};
 
 /// Carries out the lines of the input. What is written comes out before more input is awaited.
@@ -38,11 +38,16 @@ fn is_silent(line: &[u8]) -> bool {
 
 /// Carries out one line; the output line.
 fn obey(engine: &dyn Engine, racks: &mut [Rack], line: &[u8]) -> Result<String, Why> {
-    let (at, command) = parse(line)?;
-    let rack = racks.get_mut(at).ok_or("no such controller")?;
-    let mut out = vec![0; command.out()];
-    let reply = run(engine, rack, &command, &mut out)?;
-    Ok(reply_line(&command, &reply, rack, &out))
+    let (at, line) = parse(line)?;
+    let rack = &mut racks[at];
+    match line {
+        Line::Tool(tool) => rack.obey(&tool),
+        Line::Command(command) => {
+            let mut out = vec![0; command.out()];
+            let reply = engine.run(rack, &command, &mut out);
+            Ok(reply.line(&command, &out))
+        }
+    }
 }
 
 /// Reads up to the next newline, which is dropped; the last line may lack it. None at the end of

@@ -2,9 +2,9 @@
 
 use crate::answer::Answer;
 use crate::calls;
-use crate::kinds::{dots_of, dots_to_bytes, Actor, Dot, Label, SetName, DOT_SIZE};
+use crate::kinds::{dots_of, dots_to_bytes, Actor, Dot, Label, SetName};
 use crate::state::State;
-use crate::MESSAGE_MAX;
+use limits::{DOT_SIZE, MESSAGE_MAX};
 
 /// A state with its store. All calls but the reading ones take it as `&mut`.
 #[derive(Clone, PartialEq, Eq, Debug)]

@@ -9,6 +9,8 @@ pub struct Bytes {
 }
 
 extern "C" {
+    pub fn ptl_version() -> u32;
+
     pub fn ptl_set_up(
         actor: u8,
         name: *const u8,

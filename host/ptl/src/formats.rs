@@ -3,7 +3,7 @@
 use crate::answer::Answer;
 use crate::calls;
 use crate::kinds::{dots_of, Actor, Counter, Dot, Label, SetName};
-use crate::KEY_MAX;
+use limits::KEY_MAX;
 
 /// A key of one of the four types.
 #[derive(Clone, PartialEq, Eq, Debug)]

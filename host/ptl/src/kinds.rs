@@ -1,10 +1,9 @@
 //! Actors, counters, dots, labels and set names, as types that cannot be mixed up. They hold any
 //! value; the library judges whether it keeps its rule.
 
-/// Bytes of a dot: the actor, then the counter in eight bytes, highest first.
-pub const DOT_SIZE: usize = 9;
+use limits::DOT_SIZE;
 
-/// An actor; 1 to 16 keep the rule.
+/// An actor; 1 to `limits::ACTOR_MAX` keep the rule.
 #[derive(Clone, Copy, PartialEq, Eq, PartialOrd, Ord, Hash, Debug)]
 pub struct Actor(pub u8);
 
@@ -24,7 +23,7 @@ impl Dot {
         Dot { actor, counter }
     }
 
-    /// The dot of nine bytes.
+    /// The dot of these bytes: the actor, then the counter, highest byte first.
     pub fn of_bytes(bytes: [u8; DOT_SIZE]) -> Dot {
         let [actor, counter @ ..] = bytes;
         Dot::new(Actor(actor), Counter(u64::from_be_bytes(counter)))
@@ -57,11 +56,11 @@ pub fn dots_to_bytes(dots: &[Dot]) -> Vec<u8> {
     dots.iter().flat_map(|dot| dot.to_bytes()).collect()
 }
 
-/// A label; 1 to 32 bytes, none of them 0, keep the rule.
+/// A label; 1 to `limits::LABEL_MAX` bytes, none of them 0, keep the rule.
 #[derive(Clone, PartialEq, Eq, PartialOrd, Ord, Hash, Debug)]
 pub struct Label(pub Vec<u8>);
 
-/// A set name; 1 to 16 bytes, none of them 0, keep the rule.
+/// A set name; 1 to `limits::NAME_MAX` bytes, none of them 0, keep the rule.
 #[derive(Clone, PartialEq, Eq, PartialOrd, Ord, Hash, Debug)]
 pub struct SetName(pub Vec<u8>);
 

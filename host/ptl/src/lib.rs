@@ -3,6 +3,7 @@
 //! `Controller` is a state with its store and the seven calls in Rust's own types; `formats`
 //! reads and writes keys and messages. Below them, `calls` has every function of the library
 //! on plain bytes and numbers, with the state as a value apart from the store lent to it.
+//! `limits` has every limit and size.
 //!
 //! Any argument is answered, none panics. The types keep kinds apart (an actor is no counter);
 //! whether a value keeps its rule is the library's to say, by its `Answer`.
@@ -18,12 +19,6 @@ mod state;
 pub use answer::Answer;
 pub use controller::{Controller, Entry, Found, Listing};
 pub use formats::{read_key, read_message, write_key, Key, Message};
-pub use kinds::{dots_of, dots_to_bytes, Actor, Counter, Dot, Label, SetName, DOT_SIZE};
-pub use state::{State, NAME_SIZE, STATE_SIZE, TOMBSTONE_SLOTS};
-
-/// The longest store that a call accepts.
-pub const STORE_MAX: usize = 65_536;
-/// The longest valid message.
-pub const MESSAGE_MAX: usize = 210;
-/// The longest key.
-pub const KEY_MAX: usize = 63;
+pub use kinds::{dots_of, dots_to_bytes, Actor, Counter, Dot, Label, SetName};
+pub use limits;
+pub use state::State;

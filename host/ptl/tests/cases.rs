@@ -1,5 +1,6 @@
 //! The cases of the rules ("Both sides of the line") and the slips, through the safe wrapper.
 
+use limits::{MESSAGE_MAX, STATE_SIZE, STORE_MAX};
 use ptl::{
     read_key, read_message, write_key, Actor, Answer, Controller, Counter, Dot, Entry, Key, Label,
     Message, SetName, State,
@@ -247,7 +248,7 @@ fn the_longest_message() {
     let name = SetName(vec![b'n'; 16]);
     let mut one = Controller::set_up(Actor(1), &name, vec![0; 100]).expect("keeps the rules");
     let message = one.own_add(&Label(vec![b'x'; 32]), &dots(2, 1..=16));
-    assert_eq!(message.map(|message| message.len()), Ok(ptl::MESSAGE_MAX));
+    assert_eq!(message.map(|message| message.len()), Ok(MESSAGE_MAX));
 }
 
 #[test]
@@ -279,8 +280,8 @@ fn a_store_that_is_full() {
     assert!(one.own_add(&b7(), &[]).is_ok());
     assert_eq!(one.own_add(&b7(), &[]), Err(Answer::StoreFull));
     assert_eq!(listed(&one), [entry("B7", &[dot(1, 1)])]);
-    assert_eq!(with_store(1, ptl::STORE_MAX).compact(), Ok(()));
-    let mut longer = with_store(1, ptl::STORE_MAX + 1);
+    assert_eq!(with_store(1, STORE_MAX).compact(), Ok(()));
+    let mut longer = with_store(1, STORE_MAX + 1);
     assert_eq!(longer.compact(), Err(Answer::Damaged));
 }
 
@@ -369,7 +370,7 @@ fn an_unseen_dot_joins_the_clock() {
 #[test]
 fn any_state_is_answered() {
     for fill in [0x00, 0x01, 0x7F, 0xFF] {
-        let mut any = Controller::of_parts(State::of_block([fill; 1449]), vec![fill; 300]);
+        let mut any = Controller::of_parts(State::of_block([fill; STATE_SIZE]), vec![fill; 300]);
         let before = any.clone();
         assert_eq!(any.own_add(&b7(), &[dot(0, 0)]), Err(Answer::Damaged));
         assert_eq!(any.own_remove(&[]), Err(Answer::Damaged));

@@ -1,5 +1,6 @@
 //! The command `ptl` from outside: arguments, streams and exit status.
 
+use limits::ANSWERS;
 use std::io::{BufRead, BufReader, Write};
 use std::process::{Command, Output, Stdio};
 use std::time::{Duration, Instant};
@@ -16,41 +17,61 @@ fn output(arguments: &[&str]) -> Output {
 }
 
 #[test]
-fn help_prints_usage() {
-    let help = output(&["--help"]);
-    assert_eq!(help.status.code(), Some(0));
-    assert!(help.stdout.starts_with(b"usage: ptl console\n"));
-    assert!(help.stderr.is_empty());
+fn help_and_version_are_printed() {
+    let version = format!("ptl {}\n", env!("CARGO_PKG_VERSION"));
+    for (line, start) in [
+        ("--help", "usage: ptl console\n"),
+        ("-h", "usage: ptl console\n"),
+        ("console --help", "usage: ptl console\n"),
+        ("compare -h", "usage: ptl console\n"),
+        ("--version", &version),
+    ] {
+        let told = output(&line.split(' ').collect::<Vec<_>>());
+        assert_eq!(told.status.code(), Some(0), "{line}");
+        assert!(told.stdout.starts_with(start.as_bytes()), "{line}");
+        assert!(told.stderr.is_empty(), "{line}");
+    }
 }
 
+/// Command lines that are wrong, each with what is said of it.
+const WRONG: &str = "\
+ptl: no command; there are console, compare, simulate, bench
+ptl help: no command 'help'; there are console, compare, simulate, bench
+ptl --help console: no command '--help'; there are console, compare, simulate, bench
+ptl console x: console has no 'x'; it has no options
+ptl compare x: compare has no 'x'; it has --calls, --seed, --against
+ptl compare --calls: compare --calls wants NUMBER
+ptl compare --calls x: compare --calls wants NUMBER, not 'x'
+ptl compare --calls -1: compare --calls wants NUMBER, not '-1'
+ptl compare --calls 1 --calls 1: compare --calls is given twice
+ptl compare --calls 1 --seed: compare --seed wants NUMBER
+ptl compare --seed 18446744073709551616: compare --seed wants NUMBER, not '18446744073709551616'
+ptl compare --against product: compare --against wants reference or baseline, not 'product'
+ptl compare --against: compare --against wants reference or baseline
+ptl bench x: bench has no 'x'; it has --quick
+ptl bench --quick --quick: bench --quick is given twice
+ptl simulate x: simulate has no 'x'; it has --seed, --svg, --quiet
+ptl simulate --seed: simulate --seed wants NUMBER
+ptl simulate --seed x: simulate --seed wants NUMBER, not 'x'
+ptl simulate --seed 1 --seed 1: simulate --seed is given twice
+ptl simulate --svg: simulate --svg wants a file
+ptl simulate --svg a --svg a: simulate --svg is given twice
+ptl simulate --quiet --quiet: simulate --quiet is given twice
+ptl simulate --quiet x: simulate has no 'x'; it has --seed, --svg, --quiet
+ptl simulate --calls 1: simulate has no '--calls'; it has --seed, --svg, --quiet
+";
+
 #[test]
-fn unknown_arguments_print_usage_and_fail() {
-    let unknown: [&[&str]; 19] = [
-        &[],
-        &[""],
-        &["help"],
-        &["-h"],
-        &["--help", "console"],
-        &["console", "x"],
-        &["console", "--help"],
-        &["compare", "x"],
-        &["compare", "--calls"],
-        &["compare", "--calls", "x"],
-        &["compare", "--calls", "-1"],
-        &["compare", "--calls", "1", "--calls", "1"],
-        &["compare", "--calls", "1", "--seed"],
-        &["compare", "--seed", "18446744073709551616"],
-        &["compare", "--against", "product"],
-        &["compare", "--against"],
-        &["bench", "x"],
-        &["bench", "--quick", "--quick"],
-        &["bench", "--help"],
-    ];
-    for arguments in unknown {
-        let refused = output(arguments);
-        assert_eq!(refused.status.code(), Some(2), "{arguments:?}");
-        assert!(refused.stdout.is_empty(), "{arguments:?}");
-        assert!(refused.stderr.starts_with(b"usage: "), "{arguments:?}");
+fn a_wrong_argument_is_told_and_fails() {
+    for line in WRONG.lines() {
+        let (arguments, wrong) = line.split_once(": ").expect("what is said");
+        let words: Vec<&str> = arguments.split(' ').skip(1).collect();
+        let refused = output(&words);
+        assert_eq!(refused.status.code(), Some(2), "{arguments}");
+        assert!(refused.stdout.is_empty(), "{arguments}");
+        let told = String::from_utf8(refused.stderr).expect("text");
+        let wrong = wrong.replace("NUMBER", "a number from 0 to 18446744073709551615");
+        assert_eq!(told, format!("ptl: {wrong} (ptl --help tells more)\n"));
     }
 }
 
@@ -79,14 +100,17 @@ fn the_console_answers_before_it_is_asked_more() {
     assert_eq!(child.wait().expect("ends").code(), Some(0));
 }
 
-/// The counts of one call in the table, answers 0 to 13; -1 where it cannot give one.
-fn counts(table: &str, call: &str) -> Vec<i64> {
-    let line = table
-        .lines()
-        .find(|line| line.split_whitespace().next() == Some(call))
-        .expect("a line for each call");
-    let cells = line.split_whitespace().skip(1);
-    cells.map(|cell| cell.parse().unwrap_or(-1)).collect()
+/// Each call in the table with its counts, an answer each; -1 where it cannot give one.
+fn counts(table: &str) -> Vec<(&str, Vec<i64>)> {
+    let lines = table.lines().skip(1);
+    let lines = lines.take_while(|line| !line.starts_with("held "));
+    let row = |line: &'_ str| {
+        let cells = line.split_whitespace().skip(1);
+        cells.map(|cell| cell.parse().unwrap_or(-1)).collect()
+    };
+    lines
+        .map(|line| (line.split(' ').next().unwrap_or_default(), row(line)))
+        .collect()
 }
 
 /// Runs the comparison with these arguments too; it passes, and meets every answer.
@@ -95,27 +119,16 @@ fn agree_in_200000_calls(more: &[&str]) {
     let run = output(&arguments);
     let table = String::from_utf8(run.stdout).expect("ASCII");
     assert_eq!(run.status.code(), Some(0), "{table}");
-    let calls = [
-        "setup",
-        "add",
-        "remove",
-        "take",
-        "list",
-        "lookup",
-        "compact",
-        "key",
-        "readkey",
-        "readmessage",
-    ];
+    let counts = counts(&table);
     let mut all = 0;
-    for call in calls {
-        let counts = counts(&table, call);
-        assert_eq!(counts.len(), 14, "{call}");
+    for (call, counts) in &counts {
+        assert_eq!(counts.len(), ANSWERS, "{call}");
         assert!(counts.iter().all(|count| *count != 0), "{call}: {table}");
         all += counts.iter().filter(|count| **count > 0).sum::<i64>();
     }
     assert!((200_000..200_100).contains(&all), "{all}");
-    assert_eq!(counts(&table, "compact")[2..], [-1; 12]);
+    let compact = counts.iter().find(|(call, _)| *call == "compact");
+    assert!(compact.is_some_and(|(_, counts)| counts[2..] == [-1; ANSWERS - 2]));
     let progress = String::from_utf8(run.stderr).expect("ASCII");
     assert!(progress.contains(" of 200000 calls, "), "{progress}");
 }

@@ -120,30 +120,6 @@ fn a_picture_that_cannot_be_written_is_told_at_once() {
     );
 }
 
-#[test]
-fn unknown_arguments_print_usage_and_fail() {
-    let unknown: [&[&str]; 12] = [
-        &["x"],
-        &["--help"],
-        &["--seed"],
-        &["--seed", "x"],
-        &["--seed", "-1"],
-        &["--seed", "18446744073709551616"],
-        &["--seed", "1", "--seed", "1"],
-        &["--svg"],
-        &["--svg", "a", "--svg", "a"],
-        &["--quiet", "--quiet"],
-        &["--quiet", "x"],
-        &["--calls", "1"],
-    ];
-    for arguments in unknown {
-        let refused = simulate(arguments);
-        assert_eq!(refused.status.code(), Some(2), "{arguments:?}");
-        assert!(refused.stdout.is_empty(), "{arguments:?}");
-        assert!(refused.stderr.starts_with(b"usage: "), "{arguments:?}");
-    }
-}
-
 /// The elements left open at the end, or what is not well formed. Comments, entities and the like
 /// are not in the picture and not read.
 fn open_elements(svg: &str) -> Result<Vec<String>, String> {

@@ -2,27 +2,27 @@
 
 /// Done.
 pub const DONE: u8 = 0;
-/// The state is damaged, or the store is longer than 65,536.
+/// The state is damaged, or the store is longer than `STORE_MAX`.
 pub const DAMAGED: u8 = 1;
 /// Message under 5 bytes or wrong mark.
 pub const NO_MARK: u8 = 2;
 /// Version other than 1.
-pub const VERSION: u8 = 3;
+pub const BAD_VERSION: u8 = 3;
 /// Unknown kind, fields past the end, bytes left over; or no key.
-pub const FORM: u8 = 4;
+pub const BAD_SHAPE: u8 = 4;
 /// Set name, label, or an actor given to set-up or to a key, breaks its rule.
-pub const NAME_OR_LABEL: u8 = 5;
+pub const BAD_NAME: u8 = 5;
 /// A dot, a context or a key's counter breaks its rule, or an add's context has its own dot.
-pub const DOTS: u8 = 6;
+pub const BAD_DOT: u8 = 6;
 /// Message is for another set.
 pub const OTHER_SET: u8 = 7;
 /// An offered own dot is above the own base.
-pub const ABOVE_OWN_BASE: u8 = 8;
+pub const OWN_AHEAD: u8 = 8;
 /// Own add with the own base at the largest counter.
-pub const NO_COUNTER_LEFT: u8 = 9;
-/// A dot lies more than 64 above its actor's unbroken run from 1.
-pub const OUT_OF_REACH: u8 = 10;
-/// The tombstone would pass 128 dots.
+pub const COUNTER_END: u8 = 9;
+/// A dot lies more than `WINDOW` above its actor's unbroken run from 1.
+pub const TOO_FAR: u8 = 10;
+/// The tombstone would pass `TOMBSTONE_DOTS_MAX` dots.
 pub const TOMBSTONE_FULL: u8 = 11;
 /// A key must be stored and does not fit.
 pub const STORE_FULL: u8 = 12;

@@ -3,8 +3,9 @@
 
 use crate::answer::*;
 use crate::dot::{read_context, Actor, Dot};
-use crate::held::{Held, State, MOST_DOTS};
+use crate::held::{Held, State};
 use crate::keys::{label_keeps_rule, name_keeps_rule};
+use crate::limits::TOMBSTONE_DOTS_MAX;
 use crate::message::{parse, Message};
 use std::collections::{BTreeMap, BTreeSet};
 
@@ -37,7 +38,7 @@ pub struct Looked {
 pub fn set_up(actor: u8, name: &[u8]) -> (u8, State) {
     let mut state = State::zero();
     if Actor::new(actor).is_none() || !name_keeps_rule(name) {
-        return (NAME_OR_LABEL, state);
+        return (BAD_NAME, state);
     }
     state.actor = actor;
     state.name[..name.len()].copy_from_slice(name);
@@ -127,15 +128,15 @@ fn try_own_add(
 ) -> Result<(State, u64), u8> {
     let held = Held::read(state, store).ok_or(DAMAGED)?;
     if !label_keeps_rule(label) {
-        return Err(NAME_OR_LABEL);
+        return Err(BAD_NAME);
     }
-    let context = read_context(context).ok_or(DOTS)?;
+    let context = read_context(context).ok_or(BAD_DOT)?;
     let taken = next_own_dot(&held);
     if taken.is_some_and(|dot| context.contains(&dot)) {
-        return Err(DOTS);
+        return Err(BAD_DOT);
     }
     check_own(&held, &context)?;
-    let taken = taken.ok_or(NO_COUNTER_LEFT)?;
+    let taken = taken.ok_or(COUNTER_END)?;
     let message = Message {
         name: held.name.clone(),
         add: Some((label.to_vec(), taken)),
@@ -154,7 +155,7 @@ fn try_own_remove(
     out: &mut [u8],
 ) -> Result<(State, u64), u8> {
     let held = Held::read(state, store).ok_or(DAMAGED)?;
-    let context = read_context(context).ok_or(DOTS)?;
+    let context = read_context(context).ok_or(BAD_DOT)?;
     check_own(&held, &context)?;
     let message = Message {
         name: held.name.clone(),
@@ -212,7 +213,7 @@ fn try_list(state: &State, store: &[u8], out: &mut [u8]) -> Result<(u64, u64), u
 fn try_lookup(state: &State, store: &[u8], label: &[u8]) -> Result<(u64, u64, bool), u8> {
     let held = Held::read(state, store).ok_or(DAMAGED)?;
     if !label_keeps_rule(label) {
-        return Err(NAME_OR_LABEL);
+        return Err(BAD_NAME);
     }
     let lengths = |wanted: fn(&[u8], &[u8]) -> bool| -> u64 {
         let labels = held.store.iter().map(|(l, _)| l.as_slice());
@@ -246,7 +247,7 @@ fn check_own(held: &Held, offered: &[Dot]) -> Result<(), u8> {
     let base = held.clock.base(held.actor);
     let above = |dot: &Dot| dot.actor == held.actor && u128::from(dot.counter.number()) > base;
     if offered.iter().any(above) {
-        return Err(ABOVE_OWN_BASE);
+        return Err(OWN_AHEAD);
     }
     Ok(())
 }
@@ -268,8 +269,8 @@ fn merged(held: &Held, message: &Message, store_length: usize) -> Result<(Held, 
             next.store.insert((label.clone(), *dot));
         }
     }
-    let rows = next.clock.rows().ok_or(OUT_OF_REACH)?;
-    if next.tombstone.len() > MOST_DOTS {
+    let rows = next.clock.rows().ok_or(TOO_FAR)?;
+    if next.tombstone.len() > TOMBSTONE_DOTS_MAX {
         return Err(TOMBSTONE_FULL);
     }
     if next.used() > store_length {

@@ -2,12 +2,8 @@
 //! computed from that set; numbers are u128 here, so nothing wraps near the largest counter.
 
 use crate::dot::{Actor, Dot};
+use crate::limits::{ACTOR_MAX, CLOCK_WORDS, COUNTER_MAX, ROW_WORDS, WINDOW};
 use std::collections::{BTreeMap, BTreeSet};
-
-/// The largest counter.
-const LARGEST: u128 = u64::MAX as u128;
-/// How far above the unbroken run a window reaches.
-const REACH: u128 = 64;
 
 /// The seen events of one actor: 1 to `run`, and those of `above`, all greater than `run`.
 #[derive(Clone)]
@@ -20,11 +16,11 @@ impl Events {
     /// Reads a row. None if bit 0 is set or the window names an event past the largest counter.
     fn from_row(base: u64, window: u64) -> Option<Events> {
         let run = u128::from(base);
-        let above: BTreeSet<u128> = (0..64)
+        let above: BTreeSet<u128> = (0..WINDOW)
             .filter(|i| window >> i & 1 == 1)
             .map(|i| run + 1 + i)
             .collect();
-        let sound = above.iter().all(|e| *e != run + 1 && *e <= LARGEST);
+        let sound = above.iter().all(|e| *e != run + 1 && *e <= COUNTER_MAX);
         sound.then_some(Events { run, above })
     }
 
@@ -47,12 +43,12 @@ impl Events {
         end
     }
 
-    /// The one form. None if an event lies more than 64 above the unbroken run (answer 10).
+    /// The one form. None if an event lies more than `WINDOW` above the unbroken run (answer 10).
     fn row(&self) -> Option<(u64, u64)> {
         let base = self.unbroken();
         let mut window = 0;
         for event in self.above.iter().filter(|e| **e > base) {
-            if *event > base + REACH {
+            if *event > base + WINDOW {
                 return None;
             }
             window |= 1u64 << (*event - base - 1);
@@ -61,26 +57,26 @@ impl Events {
     }
 }
 
-/// The seen events of all 16 actors.
+/// The seen events of all actors.
 #[derive(Clone)]
 pub struct Clock {
     events: BTreeMap<Actor, Events>,
 }
 
 impl Clock {
-    /// Reads 16 rows; none if one of them is damaged.
-    pub fn from_rows(rows: &[u64; 32]) -> Option<Clock> {
+    /// Reads the rows of all actors; none if one of them is damaged.
+    pub fn from_rows(rows: &[u64; CLOCK_WORDS]) -> Option<Clock> {
         let mut events = BTreeMap::new();
-        for (actor, row) in (1..=16).zip(rows.chunks(2)) {
+        for (actor, row) in (1..=ACTOR_MAX).zip(rows.chunks(ROW_WORDS)) {
             events.insert(Actor::new(actor)?, Events::from_row(row[0], row[1])?);
         }
         Some(Clock { events })
     }
 
     /// The rows of the one form; none if a dot is out of reach (answer 10).
-    pub fn rows(&self) -> Option<[u64; 32]> {
-        let mut rows = [0; 32];
-        for (row, events) in rows.chunks_mut(2).zip(self.events.values()) {
+    pub fn rows(&self) -> Option<[u64; CLOCK_WORDS]> {
+        let mut rows = [0; CLOCK_WORDS];
+        for (row, events) in rows.chunks_mut(ROW_WORDS).zip(self.events.values()) {
             let (base, window) = events.row()?;
             row[0] = base;
             row[1] = window;

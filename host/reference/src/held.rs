@@ -4,24 +4,22 @@
 use crate::clock::Clock;
 use crate::dot::{read_dots, Actor, Dot};
 use crate::keys::{label_key, name_keeps_rule, read_key, KeyKind};
+use crate::limits::{
+    CLOCK_WORDS, DOT_SIZE, KEY_END, KEY_FIXED, KEY_START, NAME_MAX, STORE_MAX, TOMBSTONE_SIZE,
+};
 use std::collections::BTreeSet;
-
-/// The longest store.
-const LONGEST_STORE: usize = 65_536;
-/// The largest number of dots in the tombstone.
-pub const MOST_DOTS: usize = 128;
 
 /// A controller's state in plain numbers, which may be damaged.
 #[derive(Clone, PartialEq, Eq, Debug)]
 pub struct State {
     pub actor: u8,
     /// The set name; bytes past `name_len` are zero.
-    pub name: [u8; 16],
+    pub name: [u8; NAME_MAX],
     pub name_len: u64,
     /// Base and window of actor a at 2(a-1) and 2(a-1)+1.
-    pub clock: [u64; 32],
-    /// Nine bytes a dot: actor, counter highest first; bytes past 9 * `count` are zero.
-    pub tombstone: [u8; 1152],
+    pub clock: [u64; CLOCK_WORDS],
+    /// The bytes of `count` dots: actor, counter highest first; those past them are zero.
+    pub tombstone: [u8; TOMBSTONE_SIZE],
     pub count: u64,
     /// Used length of the store.
     pub used: u64,
@@ -32,10 +30,10 @@ impl State {
     pub fn zero() -> State {
         State {
             actor: 0,
-            name: [0; 16],
+            name: [0; NAME_MAX],
             name_len: 0,
-            clock: [0; 32],
-            tombstone: [0; 1152],
+            clock: [0; CLOCK_WORDS],
+            tombstone: [0; TOMBSTONE_SIZE],
             count: 0,
             used: 0,
         }
@@ -54,9 +52,9 @@ pub struct Held {
 }
 
 impl Held {
-    /// None if the state is damaged or the store longer than 65,536 (answer 1).
+    /// None if the state is damaged or the store longer than `STORE_MAX` (answer 1).
     pub fn read(state: &State, store: &[u8]) -> Option<Held> {
-        if store.len() > LONGEST_STORE {
+        if store.len() > STORE_MAX {
             return None;
         }
         let actor = Actor::new(state.actor)?;
@@ -68,7 +66,7 @@ impl Held {
         if !clock.window_is_empty(actor) {
             return None;
         }
-        let tombstone = read_dots(filled(&state.tombstone, state.count, 9)?)?;
+        let tombstone = read_dots(filled(&state.tombstone, state.count, DOT_SIZE)?)?;
         let used = store.get(..usize::try_from(state.used).ok()?)?;
         let pairs = read_pairs(name, used)?;
         let mut dots = tombstone.iter().chain(pairs.iter().map(|(_, dot)| dot));
@@ -82,13 +80,13 @@ impl Held {
     }
 
     /// The state of these values with the clock's rows given.
-    pub fn state(&self, clock: [u64; 32]) -> State {
+    pub fn state(&self, clock: [u64; CLOCK_WORDS]) -> State {
         let mut state = State::zero();
         state.actor = self.actor.byte();
         state.name[..self.name.len()].copy_from_slice(&self.name);
         state.name_len = self.name.len() as u64;
         state.clock = clock;
-        for (place, dot) in state.tombstone.chunks_mut(9).zip(&self.tombstone) {
+        for (place, dot) in state.tombstone.chunks_mut(DOT_SIZE).zip(&self.tombstone) {
             place.copy_from_slice(&dot.bytes());
         }
         state.count = self.tombstone.len() as u64;
@@ -96,9 +94,9 @@ impl Held {
         state
     }
 
-    /// The length of a label's key: name length + label length + 15.
+    /// The length of a label's key.
     pub fn key_length(&self, label: &[u8]) -> usize {
-        self.name.len() + label.len() + 15
+        self.name.len() + label.len() + KEY_FIXED
     }
 
     /// The used length of the store.
@@ -144,7 +142,7 @@ fn read_pairs(name: &[u8], used: &[u8]) -> Option<BTreeSet<(Vec<u8>, Dot)>> {
 
 /// The bytes up to where a label key of this set would end, found by the 00 after its label.
 fn first_key<'a>(name: &[u8], bytes: &'a [u8]) -> Option<&'a [u8]> {
-    let label_at = name.len() + 4;
+    let label_at = name.len() + KEY_START;
     let label_length = bytes.get(label_at..)?.iter().position(|b| *b == 0)?;
-    bytes.get(..label_at + label_length + 11)
+    bytes.get(..label_at + label_length + KEY_END)
 }

@@ -1,7 +1,8 @@
 //! "Bytes of a key": writing and reading the four types of key, and the rules of name and label.
 
-use crate::answer::{DONE, DOTS, FORM, NAME_OR_LABEL, OUTPUT_SHORT};
+use crate::answer::{BAD_DOT, BAD_NAME, BAD_SHAPE, DONE, OUTPUT_SHORT};
 use crate::dot::{Actor, Counter, Dot};
+use crate::limits::{LABEL_MAX, NAME_MAX};
 
 /// Magic byte and version byte.
 const FRONT: [u8; 2] = [2, 1];
@@ -16,7 +17,7 @@ pub enum KeyKind {
 }
 
 impl KeyKind {
-    fn letter(self) -> u8 {
+    pub fn letter(self) -> u8 {
         match self {
             KeyKind::Clock => b'c',
             KeyKind::Tombstone => b'd',
@@ -25,7 +26,7 @@ impl KeyKind {
         }
     }
 
-    fn of_letter(letter: u8) -> Option<KeyKind> {
+    pub fn of_letter(letter: u8) -> Option<KeyKind> {
         let all = [
             KeyKind::Clock,
             KeyKind::Tombstone,
@@ -47,14 +48,14 @@ pub struct KeyRead {
     pub counter: u64,
 }
 
-/// Set name: 1 to 16 bytes, none of them zero.
+/// Set name: 1 to `NAME_MAX` bytes, none of them zero.
 pub fn name_keeps_rule(name: &[u8]) -> bool {
-    (1..=16).contains(&name.len()) && !name.contains(&0)
+    (1..=NAME_MAX).contains(&name.len()) && !name.contains(&0)
 }
 
-/// Label: 1 to 32 bytes, none of them zero.
+/// Label: 1 to `LABEL_MAX` bytes, none of them zero.
 pub fn label_keeps_rule(label: &[u8]) -> bool {
-    (1..=32).contains(&label.len()) && !label.contains(&0)
+    (1..=LABEL_MAX).contains(&label.len()) && !label.contains(&0)
 }
 
 /// The bytes of a label key.
@@ -104,19 +105,19 @@ fn key_to_write(
     counter: u64,
 ) -> Result<Vec<u8>, u8> {
     if !name_keeps_rule(name) {
-        return Err(NAME_OR_LABEL);
+        return Err(BAD_NAME);
     }
     if kind == KeyKind::Label && !label_keeps_rule(label) {
-        return Err(NAME_OR_LABEL);
+        return Err(BAD_NAME);
     }
     if kind == KeyKind::End {
         let mut key = key_front(kind, name, &[]);
         key.push(0);
         return Ok(key);
     }
-    let actor = Actor::new(actor).ok_or(NAME_OR_LABEL)?;
+    let actor = Actor::new(actor).ok_or(BAD_NAME)?;
     if kind == KeyKind::Label {
-        let counter = Counter::new(counter).ok_or(DOTS)?;
+        let counter = Counter::new(counter).ok_or(BAD_DOT)?;
         return Ok(label_key(name, label, Dot { actor, counter }));
     }
     let mut key = key_front(kind, name, &[]);
@@ -127,7 +128,7 @@ fn key_to_write(
 /// Reads a key: exactly the written forms with nothing left over, anything else is 4.
 pub fn read_key(bytes: &[u8]) -> KeyRead {
     parse(bytes).unwrap_or(KeyRead {
-        answer: FORM,
+        answer: BAD_SHAPE,
         kind: None,
         name: Vec::new(),
         label: Vec::new(),

@@ -12,6 +12,7 @@ mod clock;
 mod dot;
 mod held;
 mod keys;
+pub mod limits;
 mod message;
 mod rule;
 

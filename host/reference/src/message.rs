@@ -1,8 +1,9 @@
 //! "Bytes of a message": messages as values, read from bytes and written to them.
 
-use crate::answer::{DONE, DOTS, FORM, NAME_OR_LABEL, NO_MARK, VERSION};
+use crate::answer::{BAD_DOT, BAD_NAME, BAD_SHAPE, BAD_VERSION, DONE, NO_MARK};
 use crate::dot::{read_context, Dot};
 use crate::keys::{label_keeps_rule, name_keeps_rule};
+use crate::limits::DOT_SIZE;
 
 const MARK: [u8; 3] = *b"PTL";
 const VERSION_ONE: [u8; 2] = [0, 1];
@@ -40,12 +41,12 @@ pub fn read_message(bytes: &[u8]) -> MessageRead {
 
 /// The message, or the number of the refusal.
 pub fn parse(bytes: &[u8]) -> Result<Message, u8> {
-    if bytes.len() < 5 {
+    if bytes.len() < MARK.len() + VERSION_ONE.len() {
         return Err(NO_MARK);
     }
     let rest = bytes.strip_prefix(&MARK).ok_or(NO_MARK)?;
-    let rest = rest.strip_prefix(&VERSION_ONE).ok_or(VERSION)?;
-    judge(&parts(rest).ok_or(FORM)?)
+    let rest = rest.strip_prefix(&VERSION_ONE).ok_or(BAD_VERSION)?;
+    judge(&parts(rest).ok_or(BAD_SHAPE)?)
 }
 
 /// The fields of a message as the length bytes cut them, not yet judged by their rules.
@@ -60,11 +61,11 @@ fn parts(bytes: &[u8]) -> Option<Parts<'_>> {
     let (kind, mut rest) = bytes.split_first()?;
     let name = counted(&mut rest, 1)?;
     let add = match *kind {
-        ADD => Some((counted(&mut rest, 1)?, cut(&mut rest, 9)?)),
+        ADD => Some((counted(&mut rest, 1)?, cut(&mut rest, DOT_SIZE)?)),
         REMOVE => None,
         _ => return None,
     };
-    let context = counted(&mut rest, 9)?;
+    let context = counted(&mut rest, DOT_SIZE)?;
     rest.is_empty().then_some(Parts { name, add, context })
 }
 
@@ -88,15 +89,15 @@ fn cut<'a>(rest: &mut &'a [u8], length: usize) -> Option<&'a [u8]> {
 fn judge(parts: &Parts) -> Result<Message, u8> {
     let label_fits = parts.add.is_none_or(|(label, _)| label_keeps_rule(label));
     if !name_keeps_rule(parts.name) || !label_fits {
-        return Err(NAME_OR_LABEL);
+        return Err(BAD_NAME);
     }
     let add = match parts.add {
-        Some((label, dot)) => Some((label.to_vec(), Dot::read(dot).ok_or(DOTS)?)),
+        Some((label, dot)) => Some((label.to_vec(), Dot::read(dot).ok_or(BAD_DOT)?)),
         None => None,
     };
-    let context = read_context(parts.context).ok_or(DOTS)?;
+    let context = read_context(parts.context).ok_or(BAD_DOT)?;
     if add.as_ref().is_some_and(|(_, dot)| context.contains(dot)) {
-        return Err(DOTS);
+        return Err(BAD_DOT);
     }
     Ok(Message {
         name: parts.name.to_vec(),

@@ -17,7 +17,7 @@ pub struct Rule {
 impl Rule {
     /// The rule at an accepted set-up of this actor: both sets empty.
     pub fn new(actor: u8) -> Rule {
-        assert!(Actor::new(actor).is_some(), "set-up accepts 1 to 16 only");
+        assert!(Actor::new(actor).is_some(), "set-up accepts no such actor");
         Rule {
             actor,
             own_adds: 0,
@@ -44,6 +44,12 @@ impl Rule {
     pub fn take_in(&mut self, message: &Message) {
         self.pairs.extend(message.add.clone());
         self.removed.extend(&message.context);
+    }
+
+    /// The proviso of demand 3: no two accepted adds gave one dot to different labels.
+    pub fn has_one_label_a_dot(&self) -> bool {
+        let dots: BTreeSet<Dot> = self.pairs.iter().map(|(_, dot)| *dot).collect();
+        dots.len() == self.pairs.len()
     }
 
     /// The pairs not removed: what a compaction accepted next leaves in the store.

@@ -62,7 +62,7 @@ fn a2_second_add_and_compaction() {
     assert_eq!(bench.compact(), 0);
     assert_eq!(bench.used(), key(B7, (1, 2)));
     assert_eq!((bench.state.used, bench.state.count), (19, 0));
-    assert_eq!(bench.state.tombstone, [0; 1152]);
+    assert_eq!(bench.state.tombstone, State::zero().tombstone);
 }
 
 #[test]

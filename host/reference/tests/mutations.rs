@@ -81,7 +81,7 @@ fn call(random: &mut Xorshift, bench: &mut Bench) -> u8 {
 #[test]
 fn nothing_stops_and_nothing_is_damaged() {
     let mut random = Xorshift(0x5EED_0003);
-    let mut met = [0u64; 14];
+    let mut met = [0u64; reference::limits::ANSWERS];
     for _ in 0..20_000 {
         let mut bench = lived(&mut random);
         if random.chance(50) {

@@ -325,3 +325,18 @@ fn long_run_to_a_full_tombstone() {
     assert!(tally[&("taking in", 0)] > 1000);
     met(&tally, "taking in", &[0, 10, 11]);
 }
+
+#[test]
+fn the_rule_tells_when_one_dot_has_two_labels() {
+    let take_in = |rule: &mut Rule, label: &[u8], counter| {
+        let add = Dot::new(STRAY, counter).map(|dot| (label.to_vec(), dot));
+        let (name, context) = (NAME.to_vec(), Vec::new());
+        rule.take_in(&Message { name, add, context });
+        rule.has_one_label_a_dot()
+    };
+    let mut rule = Rule::new(ACTORS[0]);
+    let adds: [(&[u8], u64); 3] = [(b"B7", 1), (b"B7", 1), (b"B8", 2)];
+    assert!(adds.iter().all(|add| take_in(&mut rule, add.0, add.1)));
+    assert!(!take_in(&mut rule, b"B8", 1));
+    assert!(!take_in(&mut rule, b"B9", 3));
+}

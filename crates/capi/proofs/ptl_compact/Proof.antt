@@ -1,19 +1,19 @@
 -- Bytes that are no block, a state that stays, or what compaction leaves, packed.
 use Prim.Native.Nat.{ℕ}
 use mathlib.Core.List.{[]}
-use mathlib.Core.Path.{_≡_}
-use lib.ListN.{length, getD}
+use lib.ListN.{getD}
 use mir.Syntax.{w8}
 use mir.Val.{Fits}
 use Rattle.calls.specs.declared.State.{State}
 use Rattle.calls.specs.Calls.{compactResult}
-use Rattle.capi.proofs.Blocks.{arrays-in-state}
+use Rattle.block.proofs.Blocks.{state-sized}
 use Rattle.capi.proofs.Calls.{not-changed, changed, unchanged}
 use Rattle.controller.proofs.Compacting.{compact-same}
 use borrow.Author.Tests.{eqb-true}
 use borrow.Author.Needs.{needs}
 use Rattle.capi.proofs.ptl_compact.Statement.{statement}
 use Rattle.capi.proofs.ptl_compact.Tie as tie
+use Rattle.calls.specs.State.{Sized}
 
 returns : tie.Need-returns
 returns c = let s = c .before .before .before in not-changed (s .args .state .now) (c .if1 .taken) (s .args .store .now) [] (λ (st : State). compactResult st (s .args .store .now))
@@ -40,11 +40,9 @@ returns-2 c =
     let st = c .before .before .before .before .before .before .before .unpack .result in
     let small : (i : ℕ) → Fits w8 (getD (s .args .state .now) i 0) = search needs in
     let is = c .before .before .before .before .before .before .before .unpack .ensures in
-    let sizes = arrays-in-state (s .args .state .now) (c .before .before .before .before .before .before .before .before .before .if1 .left) in
-    let named : length (st .name .bytes) ≡ 16 = rw is (sizes .0) in
-    let size : length (st .tombstone .bytes) ≡ 1152 = rw is (sizes .1) in
+    let sized : Sized st = rw is (state-sized (s .args .state .now) (c .before .before .before .before .before .before .before .before .before .if1 .left)) in
     unchanged (s .args .state .now) (c .before .before .before .before .before .before .before .before .before .if1 .left) st is (s .args .store .now) [] (λ (x : State). compactResult x (s .args .store .now))
-    (λ i. small i .fits) _ _ _ (call .compact .result) (call .compact .ensures) (compact-same st (s .args .store .now) named size (eqb-true (st .tombstone .count) 0 (c .before .if2 .taken))) (c .number-of .ensures)
+    (λ i. small i .fits) _ _ _ (call .compact .result) (call .compact .ensures) (compact-same st (s .args .store .now) sized (eqb-true (st .tombstone .count) 0 (c .before .if2 .taken))) (c .number-of .ensures)
 
 pack-requires : tie.Need-pack-requires
 pack-requires c κs = search needs

@@ -4,7 +4,7 @@ use Prim.Native.Nat.{_-_, _*_, _≤_}
 use native.Mathlib.Omega.{arith}
 use Rattle.clock.specs.Row.{windowWidth}
 use Rattle.clock.specs.Clock.{joinEach}
-use Rattle.dots.specs.Wire.{dotAt, dotsOf}
+use Rattle.dots.specs.Wire.{dotAt, dotsOf, dotSize}
 use Rattle.clock.specs.Reach.{Ready}
 use Rattle.dots.proofs.Loops.{left, dots-start, dots-next, dots-none}
 use Rattle.clock.proofs.Reaching.{ready-head, ready-tail}
@@ -36,7 +36,7 @@ join-dot-requires c κs =
     let s = turn .before .before .args .offered .now in
     let i = turn .loop .i in
     let next = dots-next s i (c .before .before .loop-test .taken) in
-    rw (c .before .dot-at .ensures) (ready-head windowWidth (turn .loop .words) (dotAt s (i * 9)) _ (subst (Ready windowWidth (turn .loop .words)) next (turn .loop .inv .1 .0)))
+    rw (c .before .dot-at .ensures) (ready-head windowWidth (turn .loop .words) (dotAt s (i * dotSize)) _ (subst (Ready windowWidth (turn .loop .words)) next (turn .loop .inv .1 .0)))
 
 add-i : tie.Need-add-i Inv-loop μ-loop
 add-i c = omega arith
@@ -53,7 +53,7 @@ loop-again c =
     let words = turn .loop .words in
     let next = dots-next s i (c .before .before .before .loop-test .taken) in
     rw (c .join-dot .ensures, c .before .before .dot-at .ensures)
-    (omega arith, (ready-tail windowWidth words (dotAt s (i * 9)) _ (subst (Ready windowWidth words) next (turn .loop .inv .1 .0)), ap (joinEach windowWidth words) (sym next) ∙ turn .loop .inv .1 .1))
+    (omega arith, (ready-tail windowWidth words (dotAt s (i * dotSize)) _ (subst (Ready windowWidth words) next (turn .loop .inv .1 .0)), ap (joinEach windowWidth words) (sym next) ∙ turn .loop .inv .1 .1))
 
 returns : tie.Need-returns Inv-loop μ-loop
 unfolding joinEach

@@ -7,7 +7,7 @@ use lib.ListN.{length, take, drop}
 use lib.Seq.{length-take-le}
 use Rattle.wire.specs.Lists.{insert}
 use Rattle.dots.specs.Dots.{compareDots}
-use Rattle.dots.specs.Wire.{dotsOf}
+use Rattle.dots.specs.Wire.{dotsOf, dotSize}
 use native.Mathlib.Omega.{arith}
 use Rattle.clock.specs.Clock.{joinEach}
 use Rattle.clock.specs.Reach.{Ready}
@@ -16,7 +16,7 @@ use borrow.Author.Needs.{needs}
 use Rattle.clock.proofs.join_with_dot.Statement.{statement}
 use Rattle.clock.proofs.join_with_dot.Tie as tie
 
-around : (c : tie.After-place-of) → let a = c .before .before .args in let s = a .context .now in let at = c .place-of .result * 9 in
+around : (c : tie.After-place-of) → let a = c .before .before .args in let s = a .context .now in let at = c .place-of .result * dotSize in
     insert compareDots (a .dot) (dotsOf s) ≡ dotsOf (take at s) ++ (a .dot ∷ dotsOf (take (length s - at) (drop at s)))
 around c =
     let start = c .before .before in
@@ -29,7 +29,7 @@ mul-at : tie.Need-mul-at
 mul-at c = search needs
 
 slice-aggregate-join-around : tie.Need-slice-aggregate-join-around
-slice-aggregate-join-around c = let placed = c .before .before in sym (length-take-le (placed .place-of .result * 9) (placed .before .before .args .context .now) (placed .place-of .ensures .1))
+slice-aggregate-join-around c = let placed = c .before .before in sym (length-take-le (placed .place-of .result * dotSize) (placed .before .before .args .context .now) (placed .place-of .ensures .1))
 
 sub-join-around : tie.Need-sub-join-around
 sub-join-around c = search needs

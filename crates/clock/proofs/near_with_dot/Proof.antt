@@ -7,7 +7,7 @@ use lib.ListN.{length, take, drop}
 use lib.Seq.{length-take-le}
 use Rattle.wire.specs.Lists.{insert}
 use Rattle.dots.specs.Dots.{compareDots}
-use Rattle.dots.specs.Wire.{dotsOf}
+use Rattle.dots.specs.Wire.{dotsOf, dotSize}
 use Rattle.clock.specs.Clock.{near}
 use Rattle.clock.specs.Reach.{Offer}
 use Rattle.clock.proofs.Contexts.{with-offer, with-near, with-around}
@@ -15,7 +15,7 @@ use borrow.Author.Needs.{needs}
 use Rattle.clock.proofs.near_with_dot.Statement.{statement}
 use Rattle.clock.proofs.near_with_dot.Tie as tie
 
-around : (c : tie.After-place-of) → let a = c .before .before .args in let s = a .context .now in let at = c .place-of .result * 9 in
+around : (c : tie.After-place-of) → let a = c .before .before .args in let s = a .context .now in let at = c .place-of .result * dotSize in
     insert compareDots (a .dot) (dotsOf s) ≡ dotsOf (take at s) ++ (a .dot ∷ dotsOf (take (length s - at) (drop at s)))
 around c =
     let start = c .before .before in
@@ -28,7 +28,7 @@ mul-at : tie.Need-mul-at
 mul-at c = search needs
 
 slice-aggregate-near-around : tie.Need-slice-aggregate-near-around
-slice-aggregate-near-around c = let placed = c .before in sym (length-take-le (placed .place-of .result * 9) (placed .before .before .args .context .now) (placed .place-of .ensures .1))
+slice-aggregate-near-around c = let placed = c .before in sym (length-take-le (placed .place-of .result * dotSize) (placed .before .before .args .context .now) (placed .place-of .ensures .1))
 
 sub-near-around : tie.Need-sub-near-around
 sub-near-around c = search needs

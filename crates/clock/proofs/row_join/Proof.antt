@@ -22,8 +22,8 @@ event c =
     new-event windowWidth (rowOf (s .args .row)) (s .args .counter) (s .pre .0) (s .pre .1) (omega arith) (unseen c)
 
 word : (c : tie.Else1) → let a = c .before .before .args in let j = a .counter - a .row .base - 1 in
-    bitOr (a .row .window) (1 * 2 ^ j % 2 ^ 64) ≡ a .row .window + 2 ^ j
-word c = let a = c .before .before .args in or-shl-bit 64 (a .row .window) (a .counter - a .row .base - 1) (event c .near) (event c .clear)
+    bitOr (a .row .window) (1 * 2 ^ j % 2 ^ windowWidth) ≡ a .row .window + 2 ^ j
+word c = let a = c .before .before .args in or-shl-bit windowWidth (a .row .window) (a .counter - a .row .base - 1) (event c .near) (event c .clear)
 
 row-sees-requires : tie.Need-row-sees-requires
 row-sees-requires c κs = search needs

@@ -2,7 +2,7 @@
 use mathlib.Core.Path.{sym, _∙_}
 use Prim.Native.Nat.{_^_, _<_}
 use borrow.Author.Needs.{needs}
-use Rattle.clock.specs.Row.{testBit}
+use Rattle.clock.specs.Row.{testBit, windowWidth}
 use Rattle.clock.specs.Code.{rowOf}
 use Rattle.clock.proofs.Bits.{testBit-high}
 use Rattle.clock.proofs.Rows.{seen-up-to, seen-past}
@@ -21,8 +21,8 @@ sub-above-2 c = search needs
 returns-2 : tie.Need-returns-2
 returns-2 c =
     let a = c .before .before .args in
-    let fits : a .row .window < 2 ^ 64 = search needs in
-    sym (seen-past (rowOf (a .row)) (a .counter) (c .before .if1 .left) ∙ testBit-high 64 _ fits (c .if2 .taken))
+    let fits : a .row .window < 2 ^ windowWidth = search needs in
+    sym (seen-past (rowOf (a .row)) (a .counter) (c .before .if1 .left) ∙ testBit-high windowWidth _ fits (c .if2 .taken))
 
 shr-result : tie.Need-shr-result
 shr-result c = search needs

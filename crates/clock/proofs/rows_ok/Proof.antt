@@ -9,12 +9,13 @@ use Rattle.clock.specs.Row.{windowWidth, wellFormed}
 use Rattle.clock.specs.Clock.{rowAt, allTo, rowsOk}
 use Rattle.clock.proofs.rows_ok.Statement.{statement}
 use Rattle.clock.proofs.rows_ok.Tie as tie
+use Rattle.dots.specs.Dots.{actorMost}
 
 abbrev Inv-loop : tie.InvT-loop
-Inv-loop words ok₀ a₀ ok a = (a ≤ 16) × (ok ≡ allTo a (λ b. wellFormed windowWidth (rowAt words b)))
+Inv-loop words ok₀ a₀ ok a = (a ≤ actorMost) × (ok ≡ allTo a (λ b. wellFormed windowWidth (rowAt words b)))
 
 abbrev μ-loop : tie.MeasureT-loop
-μ-loop words ok₀ a₀ ok a = 16 - a
+μ-loop words ok₀ a₀ ok a = actorMost - a
 
 loop-holds : tie.Need-loop-holds Inv-loop μ-loop
 unfolding allTo
@@ -38,7 +39,7 @@ loop-again c = let at = c .before .before .before in (omega arith, ap₂ (λ (p 
 
 returns : tie.Need-returns Inv-loop μ-loop
 unfolding rowsOk
-returns c = let e : c .before .loop .a ≡ 16 = omega arith in rw e at (c .before .loop .inv .1)
+returns c = let e : c .before .loop .a ≡ actorMost = omega arith in rw e at (c .before .loop .inv .1)
 
 pub rows-ok-spec : {M : Type 1} → statement M
 rows-ok-spec =

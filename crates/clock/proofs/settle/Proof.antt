@@ -11,8 +11,8 @@ use Rattle.clock.proofs.Rows.{row-eq}
 use Rattle.clock.proofs.settle.Statement.{statement}
 use Rattle.clock.proofs.settle.Tie as tie
 
-run : (c : tie.Start) → trailingOnes windowWidth (c .args .window) ≡ trailingZeros 64 (2 ^ 64 - 1 - c .args .window)
-run c = ones-zeros 64 (c .args .window) (c .fits .window .fits)
+run : (c : tie.Start) → trailingOnes windowWidth (c .args .window) ≡ trailingZeros windowWidth (2 ^ windowWidth - 1 - c .args .window)
+run c = ones-zeros windowWidth (c .args .window) (c .fits .window .fits)
 
 cast-t6 : tie.Need-cast-t6
 cast-t6 c = search needs
@@ -33,8 +33,8 @@ returns c =
     row-eq (ap (λ (n : ℕ). c .before .args .base + n) e) (ap (λ (n : ℕ). c .before .args .window / 2 ^ n) e)
 
 -- a run that is not below 64 is 64
-full : (c : tie.Else1) → trailingOnes windowWidth (c .before .args .window) ≡ 64
-full c = omega (arith, run (c .before), trailing-le 64 (2 ^ 64 - 1 - c .before .args .window))
+full : (c : tie.Else1) → trailingOnes windowWidth (c .before .args .window) ≡ windowWidth
+full c = omega (arith, run (c .before), trailing-le windowWidth (2 ^ windowWidth - 1 - c .before .args .window))
 
 add-t4 : tie.Need-add-t4
 add-t4 c = omega (arith, full c)

@@ -7,8 +7,10 @@ use Rattle.compaction.proofs.Compaction.{compacted}
 use borrow.Author.Needs.{needs}
 use Rattle.compaction.proofs.compact.Statement.{statement}
 use Rattle.compaction.proofs.compact.Tie as tie
+use Rattle.dots.specs.Wire.{dotSize, tombstoneSize}
+use Rattle.dots.specs.Dots.{tombstoneMost}
 
-few-dots : (t : List ℕ) (count : ℕ) → count ≤ 128 → length (take (count * 9) t) ≤ 1152
+few-dots : (t : List ℕ) (count : ℕ) → count ≤ tombstoneMost → length (take (count * dotSize) t) ≤ tombstoneSize
 few-dots t count few = rw length-take (omega arith)
 
 mul-size : tie.Need-mul-size

@@ -2,14 +2,14 @@
 use Prim.Native.Nat.{ℕ, _+_, _-_, _/_, _≤_, _<_}
 use native.Mathlib.Omega.{arith}
 use lib.ListN.{length}
-use Rattle.dots.specs.Wire.{dotsOf, placeOf}
+use Rattle.dots.specs.Wire.{dotsOf, placeOf, dotSize}
 use Rattle.contexts.proofs.Search.{search-start, search-above, search-below}
 use borrow.Author.Needs.{needs}
 use Rattle.contexts.proofs.search_dot.Statement.{statement}
 use Rattle.contexts.proofs.search_dot.Tie as tie
 
 abbrev Inv-loop : tie.InvT-loop
-Inv-loop dots dot low₀ high₀ low high = (high ≤ length dots / 9) × (low ≤ placeOf dot (dotsOf dots)) × (placeOf dot (dotsOf dots) ≤ high)
+Inv-loop dots dot low₀ high₀ low high = (high ≤ length dots / dotSize) × (low ≤ placeOf dot (dotsOf dots)) × (placeOf dot (dotsOf dots) ≤ high)
 
 abbrev μ-loop : tie.MeasureT-loop
 μ-loop dots dot low₀ high₀ low high = high - low

@@ -1,28 +1,33 @@
 -- The one refusal or no dots in the tombstone, and all stays; else the compacted state and store.
-use Prim.Native.Nat.{ℕ}
 use mathlib.Core.Bool.{false}
 use mathlib.Core.Path.{_≡_, sym, _∙_}
-use lib.ListN.{length}
 use Rattle.wire.proofs.Tests.{neither-left}
+use Rattle.calls.specs.declared.State.{State}
+use Rattle.calls.specs.State.{Sized}
 use Rattle.calls.specs.Damage.{damaged}
+use Rattle.calls.proofs.Sized.{sized}
+use Rattle.judging.proofs.Heads.{at-head}
 use Rattle.controller.proofs.Compacting.{compact-kept, compact-done}
-use borrow.Author.Needs.{length-unmapped, needs}
+use borrow.Author.Needs.{needs}
 use Rattle.controller.proofs.compact.Statement.{statement}
 use Rattle.controller.proofs.compact.Tie as tie
 
--- the arrays of a state have their lengths
-name-size : (s : tie.Start) → length (s .args .t1 .name .bytes) ≡ 16
-name-size s = length-unmapped ℕ (s .args .t1 .name .bytes) 16 (s .good .0 .1 .1 .1 .0 .1 .1 .0 .1 .0 .1)
+-- the arrays of the state have their sizes
+sizes : (s : tie.Start) → Sized (s .args .t1)
+sizes s = let g = s .good .0 .1 .1 .1 in sized (s .args .t1) (g .0 .1 .1 .0 .1 .0 .1) (g .1 .0 .1 .1 .0 .1 .0 .1) (g .1 .1 .0 .1 .1 .0 .1 .0 .1)
 
-tombstone-size : (s : tie.Start) → length (s .args .t1 .tombstone .bytes) ≡ 1152
-tombstone-size s = length-unmapped ℕ (s .args .t1 .tombstone .bytes) 1152 (s .good .0 .1 .1 .1 .1 .1 .0 .1 .1 .0 .1 .0 .1)
+told : (c : tie.After-damaged) → let s = c .before .before .before .before .before .before .before in c .damaged .result ≡ damaged (s .args .t1) (s .args .store .now)
+told c = let s = c .before .before .before .before .before .before .before in at-head (s .args .t1) _ (c .before .before .before .before .before .head-of .ensures) (λ (x : State). c .damaged .result ≡ damaged x (s .args .store .now)) (c .damaged .ensures)
 
 -- past the first branch nothing is damaged
 abbrev start : tie.Else1 → tie.Start
-start c = c .before .before .before .before .before .before .before .before .before
+start c = c .before .before .before .before .before .before .before .before
 
 whole : (c : tie.Else1) → damaged (start c .args .t1) (start c .args .store .now) ≡ false
-whole c = sym (c .before .damaged .ensures) ∙ neither-left (c .before .damaged .result) _ (c .if1 .left)
+whole c = sym (told (c .before)) ∙ neither-left (c .before .damaged .result) _ (c .if1 .left)
+
+head-of-requires : tie.Need-head-of-requires
+head-of-requires c κs = search needs
 
 damaged-requires : tie.Need-damaged-requires
 damaged-requires c κs = search needs
@@ -35,11 +40,11 @@ same-length c = search needs
 
 returns : tie.Need-returns
 returns c =
-    let s = c .before .before .before .before .before .before .before .before .before .before in
-    compact-kept (s .args .t1) (s .args .store .now) (name-size s) (tombstone-size s) _ _ (c .before .before .damaged .ensures) (c .before .if1 .taken) (c .first .ensures)
+    let s = c .before .before .before .before .before .before .before .before .before in
+    compact-kept (s .args .t1) (s .args .store .now) (sizes s) _ _ (told (c .before .before)) (c .before .if1 .taken) (c .first .ensures)
 
 compact-done-requires : tie.Need-compact-done-requires
-compact-done-requires c κs = let e = c .before in (whole e, name-size (start e), tombstone-size (start e))
+compact-done-requires c κs = let e = c .before in (whole e, sizes (start e))
 
 same-length-2 : tie.Need-same-length-2
 same-length-2 c = search needs
@@ -51,6 +56,7 @@ pub compact-spec : {M : Type 1} → statement M
 compact-spec =
     tie.close
     (tie.spec
+    head-of-requires
     damaged-requires
     first-requires
     same-length

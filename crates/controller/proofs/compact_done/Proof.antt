@@ -10,7 +10,7 @@ slice-aggregate-compact c = search needs
 compact-requires : tie.Need-compact-requires
 compact-requires c κs =
     let s = c .before .before .before .before in
-    compact-may (s .args .state) (s .args .store .now) (s .pre .0) (s .pre .1) (s .pre .2)
+    compact-may (s .args .state) (s .args .store .now) (s .pre .0) (s .pre .1)
 
 same-length : tie.Need-same-length
 same-length c = search needs
@@ -18,7 +18,7 @@ same-length c = search needs
 returns : tie.Need-returns
 returns c =
     let s = c .before .before .before .before .before .before .before .before .before .before .before in
-    compact-leaves (s .args .state) (s .args .store .now) (s .pre .0) (s .pre .1) (s .pre .2) _ _ _ (c .before .before .before .before .before .before .compact .ensures)
+    compact-leaves (s .args .state) (s .args .store .now) (s .pre .0) (s .pre .1) _ _ _ (c .before .before .before .before .before .before .compact .ensures)
 
 pub compact-done-spec : {M : Type 1} → statement M
 compact-done-spec =

@@ -4,19 +4,21 @@ use mathlib.Core.List.{List}
 use Prim.Native.Nat.{ℕ}
 use lib.ListN.{length, replicate}
 use Rattle.dots.specs.Dots.{actorOf}
-use Rattle.dots.specs.Wire.{dotsBytes}
+use Rattle.dots.specs.Wire.{dotsBytes, tombstoneSize}
 use Rattle.calls.specs.declared.State.{State}
 use Rattle.calls.specs.Calls.{freshState}
 use Rattle.calls.specs.Effect.{padded}
 use borrow.Author.Needs.{needs}
 use Rattle.controller.proofs.fresh_state.Statement.{statement}
 use Rattle.controller.proofs.fresh_state.Tie as tie
+use Rattle.clock.specs.Clock.{zeroClock}
+use Rattle.dots.specs.Names.{nameMost}
 
-made : (actor : ℕ) (name bytes : List ℕ) → bytes ≡ padded 16 name → _≡_ {A = State} (record {
+made : (actor : ℕ) (name bytes : List ℕ) → bytes ≡ padded nameMost name → _≡_ {A = State} (record {
   actor = actorOf actor;
   name = record { bytes = bytes; len = length name };
-  clock = record { words = replicate 32 0 };
-  tombstone = record { bytes = replicate 1152 0; count = 0 };
+  clock = record { words = zeroClock };
+  tombstone = record { bytes = replicate tombstoneSize 0; count = 0 };
   used = 0;
 }) (freshState actor name)
 unfolding dotsBytes

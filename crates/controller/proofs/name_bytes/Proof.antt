@@ -10,9 +10,10 @@ use Rattle.steps.proofs.TombstoneBytes.{drop-zeros}
 use borrow.Author.Needs.{needs}
 use Rattle.controller.proofs.name_bytes.Statement.{statement}
 use Rattle.controller.proofs.name_bytes.Tie as tie
+use Rattle.dots.specs.Names.{nameMost}
 
-at-front : (name last : List ℕ) → last ≡ putAt (replicate 16 0) 0 name → last ≡ padded 16 name
-at-front name last e = e ∙ put-front (replicate 16 0) name ∙ rw (drop-zeros (length name) 16)
+at-front : (name last : List ℕ) → last ≡ putAt (replicate nameMost 0) 0 name → last ≡ padded nameMost name
+at-front name last e = e ∙ put-front (replicate nameMost 0) name ∙ rw (drop-zeros (length name) nameMost)
 
 slice-aggregate-put : tie.Need-slice-aggregate-put
 slice-aggregate-put c = search needs

@@ -7,7 +7,7 @@ use lib.Dec.{leb}
 use lib.ListN.{length}
 use borrow.Author.Tests.{leb-true, not-false}
 use Rattle.wire.proofs.Tests.{both, neither}
-use Rattle.dots.specs.Names.{nameOk, textOk}
+use Rattle.dots.specs.Names.{nameOk, textOk, nameMost}
 use Rattle.dots.specs.declared.Answer.the-variants.{Done, BadName}
 use Rattle.calls.specs.declared.State.{State}
 use Rattle.calls.specs.declared.SetUp.{SetUp}
@@ -15,9 +15,10 @@ use Rattle.calls.specs.Calls.{freshState, setUp}
 use borrow.Author.Needs.{needs}
 use Rattle.controller.proofs.set_up.Statement.{statement}
 use Rattle.controller.proofs.set_up.Tie as tie
+use Rattle.dots.specs.Dots.{actorMost}
 
 abbrev bad : ℕ → Bool → Bool
-bad actor named = not (leb 1 actor && leb actor 16) || not named
+bad actor named = not (leb 1 actor && leb actor actorMost) || not named
 
 refused : (actor : ℕ) (name : List ℕ) (named : Bool) (st : State) → named ≡ nameOk name → bad actor named ≡ true → st ≡ freshState 0 []
     → _≡_ {A = SetUp} (record { answer = BadName; state = st }) (setUp actor name)
@@ -29,9 +30,9 @@ done : (actor : ℕ) (name : List ℕ) (named : Bool) (st : State) → named ≡
 unfolding setUp
 done actor name named st e t f = rw (f, ← e, t)
 
-short : (actor : ℕ) (name : List ℕ) (named : Bool) → named ≡ nameOk name → bad actor named ≡ false → length name ≤ 16
+short : (actor : ℕ) (name : List ℕ) (named : Bool) → named ≡ nameOk name → bad actor named ≡ false → length name ≤ nameMost
 unfolding textOk
-short actor name named e t = let ok : nameOk name ≡ true = sym e ∙ not-false named (search neither) in leb-true (length name) 16 (search both)
+short actor name named e t = let ok : nameOk name ≡ true = sym e ∙ not-false named (search neither) in leb-true (length name) nameMost (search both)
 
 name-ok-requires : tie.Need-name-ok-requires
 name-ok-requires c κs = search needs

@@ -6,11 +6,11 @@ use lib.Dec.{leb}
 use native.Mathlib.Omega.{arith}
 use borrow.Author.Tests.{le-leb}
 use Rattle.dots.specs.declared.Dot.{Dot}
-use Rattle.dots.specs.Dots.{maxCounter, dotOk}
+use Rattle.dots.specs.Dots.{maxCounter, dotOk, actorMost}
 use Rattle.dots.proofs.dot_ok.Statement.{statement}
 use Rattle.dots.proofs.dot_ok.Tie as tie
 
-tested : (d : Dot) → d .counter .number ≤ maxCounter → ((leb 1 (d .actor .number) && leb (d .actor .number) 16) && leb 1 (d .counter .number)) ≡ dotOk d
+tested : (d : Dot) → d .counter .number ≤ maxCounter → ((leb 1 (d .actor .number) && leb (d .actor .number) actorMost) && leb 1 (d .counter .number)) ≡ dotOk d
 unfolding dotOk
 tested d h = rw (le-leb (d .counter .number) maxCounter h, and-true)
 

@@ -11,7 +11,7 @@ use Rattle.wire.specs.Bytes.{Bytes, byteAt, numberAt, zeroAt, span}
 use Rattle.dots.specs.declared.Answer.the-variants.{Done}
 use Rattle.keys.specs.declared.KeyKind.{KeyKind}
 use Rattle.keys.specs.declared.KeyKind.the-variants.{ClockKey, TombstoneKey, LabelKey, EndKey}
-use Rattle.keys.specs.Key.{typeByte, hasLabel, hasActor}
+use Rattle.keys.specs.Key.{typeByte, hasLabel, hasActor, prefixFixed}
 use Rattle.keys.specs.Read.{nameLength, labelLength, fieldsAs, isKey, foundKey}
 use Rattle.keys.specs.Parts.{tailLength}
 use Rattle.keys.proofs.RoundTrip.{key-size, key-short}
@@ -19,11 +19,11 @@ use borrow.Author.Needs.{needs}
 use Rattle.keys.proofs.found_key.Statement.{statement}
 use Rattle.keys.proofs.found_key.Tie as tie
 
-module _ (s t : Bytes) (kind : KeyKind) (n l : ℕ) (key : isKey kind s ≡ true) (name : n ≡ nameLength s) (rest : t ≡ drop (n + 4) s) (label : l ≡ zeroAt t) where
+module _ (s t : Bytes) (kind : KeyKind) (n l : ℕ) (key : isKey kind s ≡ true) (name : n ≡ nameLength s) (rest : t ≡ drop (n + prefixFixed) s) (label : l ≡ zeroAt t) where
   label-length : l ≡ labelLength s
   label-length = label ∙ rw (rest, name)
 
-  size : length s ≡ n + l + (4 + tailLength kind)
+  size : length s ≡ n + l + (prefixFixed + tailLength kind)
   size = let whole = key-size kind s key in let same = label-length in omega arith
 
   sum-fits : (x : ℕ) → x ≤ 15 → Fits w64 (n + l + x)
@@ -32,13 +32,13 @@ module _ (s t : Bytes) (kind : KeyKind) (n l : ℕ) (key : isKey kind s ≡ true
   counter-room : (h : Bool) → h ≡ hasLabel kind → cond h (n + l + 7 + 8) 0 ≤ length s
   counter-room h e = rw (e, size) (by-kind kind)
     where
-      by-kind : (k : KeyKind) → cond (hasLabel k) (n + l + 7 + 8) 0 ≤ n + l + (4 + tailLength k)
+      by-kind : (k : KeyKind) → cond (hasLabel k) (n + l + 7 + 8) 0 ≤ n + l + (prefixFixed + tailLength k)
       by-kind ClockKey = omega arith
       by-kind TombstoneKey = omega arith
       by-kind LabelKey = omega arith
       by-kind EndKey = omega arith
 
-  found : (h a : Bool) (b x c : ℕ) (p : Span) → h ≡ hasLabel kind → a ≡ hasActor kind → b ≡ typeByte kind → p ≡ cond h (span (n + 4) l) (span 0 0) → x ≡ cond a (byteAt s (n + l + 5)) 0 → c ≡ cond h (numberAt 8 s (n + l + 7)) 0
+  found : (h a : Bool) (b x c : ℕ) (p : Span) → h ≡ hasLabel kind → a ≡ hasActor kind → b ≡ typeByte kind → p ≡ cond h (span (n + prefixFixed) l) (span 0 0) → x ≡ cond a (byteAt s (n + l + 5)) 0 → c ≡ cond h (numberAt 8 s (n + l + 7)) 0
       → record { answer = Done; kind = b; name = span 2 n; label = p; actor = x; counter = c } ≡ foundKey kind s
   unfolding fieldsAs
   found h a b x c p e f g i j k = rw (i, j, k, e, f, g, label-length, name)

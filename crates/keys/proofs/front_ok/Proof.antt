@@ -11,9 +11,10 @@ use Rattle.keys.specs.Tests.{frontOk}
 use borrow.Author.Needs.{needs}
 use Rattle.keys.proofs.front_ok.Statement.{statement}
 use Rattle.keys.proofs.front_ok.Tie as tie
+use Rattle.dots.specs.Names.{nameMost}
 
 tested : (s : Bytes) (t : KeyKind) (n a b c d : ℕ) → n ≡ nameLength s → a ≡ byteAt s 0 → b ≡ byteAt s 1 → c ≡ byteAt s (n + 3) → d ≡ typeByte t
-    → (eqb a 2 && eqb b 1 && (leb 1 n && leb n 16) && eqb c d) ≡ frontOk t s
+    → (eqb a 2 && eqb b 1 && (leb 1 n && leb n nameMost) && eqb c d) ≡ frontOk t s
 unfolding frontOk
 tested s t n a b c d e f g h k = rw (f, g, h, k, e)
 

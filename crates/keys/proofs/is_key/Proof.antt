@@ -13,8 +13,9 @@ use Rattle.keys.proofs.KeyTests.{key-tests}
 use borrow.Author.Needs.{needs}
 use Rattle.keys.proofs.is_key.Statement.{statement}
 use Rattle.keys.proofs.is_key.Tie as tie
+use Rattle.keys.specs.Key.{prefixFixed}
 
-tested : (s t : Bytes) (kind : KeyKind) (n : ℕ) (front after : Bool) → ((i : ℕ) → Fits w8 (getD s i 0)) → n ≡ nameLength s → front ≡ frontOk kind s → t ≡ drop (n + 4) s → after ≡ afterOk kind t → (front && after) ≡ isKey kind s
+tested : (s t : Bytes) (kind : KeyKind) (n : ℕ) (front after : Bool) → ((i : ℕ) → Fits w8 (getD s i 0)) → n ≡ nameLength s → front ≡ frontOk kind s → t ≡ drop (n + prefixFixed) s → after ≡ afterOk kind t → (front && after) ≡ isKey kind s
 tested s t kind n front after small e f g h = rw (f, h, g, e) (sym (key-tests kind s (λ i. small i .fits)))
 
 front-ok-requires : tie.Need-front-ok-requires

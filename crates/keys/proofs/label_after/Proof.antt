@@ -11,16 +11,19 @@ use Rattle.keys.specs.Tests.{labelAfter}
 use borrow.Author.Needs.{needs}
 use Rattle.keys.proofs.label_after.Statement.{statement}
 use Rattle.keys.proofs.label_after.Tie as tie
+use Rattle.dots.specs.Names.{labelMost}
+use Rattle.dots.specs.Dots.{actorMost}
+use Rattle.keys.specs.Key.{suffixSize}
 
 module _ (t : Bytes) (n : ℕ) (found : (n ≡ zeroAt t) × (n ≤ length t)) where
-  other-length : (length t - n ≡ 11 → ⊥) → false ≡ labelAfter t
+  other-length : (length t - n ≡ suffixSize → ⊥) → false ≡ labelAfter t
   unfolding labelAfter
-  other-length h = rw (ne-eqb (length t) (zeroAt t + 11) (λ e. h (omega arith)))
+  other-length h = rw (ne-eqb (length t) (zeroAt t + suffixSize) (λ e. h (omega arith)))
 
-  tested : (a z c : ℕ) → length t - n ≡ 11 → a ≡ byteAt t (n + 1) → z ≡ byteAt t (n + 2) → c ≡ numberAt 8 t (n + 3)
-      → ((leb 1 n && leb n 32) && (leb 1 a && leb a 16) && eqb z 0 && leb 1 c) ≡ labelAfter t
+  tested : (a z c : ℕ) → length t - n ≡ suffixSize → a ≡ byteAt t (n + 1) → z ≡ byteAt t (n + 2) → c ≡ numberAt 8 t (n + 3)
+      → ((leb 1 n && leb n labelMost) && (leb 1 a && leb a actorMost) && eqb z 0 && leb 1 c) ≡ labelAfter t
   unfolding labelAfter
-  tested a z c h e f g = rw (e, f, g, found .0, eq-eqb (length t) (zeroAt t + 11) (omega arith))
+  tested a z c h e f g = rw (e, f, g, found .0, eq-eqb (length t) (zeroAt t + suffixSize) (omega arith))
 
 zero-at-requires : tie.Need-zero-at-requires
 zero-at-requires c κs = search needs

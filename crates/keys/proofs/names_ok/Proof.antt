@@ -4,7 +4,7 @@ use mathlib.Core.Path.{_≡_, refl}
 use mathlib.Core.Bool.{Bool, not, _&&_, _||_}
 use lib.Dec.{leb}
 use Rattle.dots.specs.Names.{Name, Label, nameOk, labelOk}
-use Rattle.dots.specs.Dots.{actorOk}
+use Rattle.dots.specs.Dots.{actorOk, actorMost}
 use Rattle.keys.specs.declared.KeyKind.{KeyKind}
 use Rattle.keys.specs.declared.KeyKind.the-variants.{ClockKey, TombstoneKey, LabelKey, EndKey}
 use Rattle.keys.specs.Key.{keyOf, hasLabel, hasActor, namesOk}
@@ -21,7 +21,7 @@ by-kind LabelKey name label actor = refl
 by-kind EndKey name label actor = refl
 
 tested : (t : KeyKind) (name : Name) (label : Label) (actor : ℕ) (n l h a : Bool) → n ≡ nameOk name → l ≡ labelOk label → h ≡ hasLabel t → a ≡ hasActor t
-    → (n && ((not h || l) && (not a || (leb 1 actor && leb actor 16)))) ≡ namesOk (keyOf t name label actor 0)
+    → (n && ((not h || l) && (not a || (leb 1 actor && leb actor actorMost)))) ≡ namesOk (keyOf t name label actor 0)
 tested t name label actor n l h a e f g k = rw (e, f, g, k) (by-kind t name label actor)
 
 name-ok-requires : tie.Need-name-ok-requires

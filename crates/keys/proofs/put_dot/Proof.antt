@@ -12,12 +12,13 @@ use Rattle.keys.specs.Parts.{tailBytes}
 use borrow.Author.Needs.{needs}
 use Rattle.keys.proofs.put_dot.Statement.{statement}
 use Rattle.keys.proofs.put_dot.Tie as tie
+use Rattle.keys.specs.Key.{suffixSize}
 
 module _ (at next counter : ℕ) (number : Bytes) (n : next ≡ at + 3) (bytes : number ≡ bigEndian 8 counter) where
-  eleven : (end : ℕ) → end ≡ next + length number → end ≡ at + 11
+  eleven : (end : ℕ) → end ≡ next + length number → end ≡ at + suffixSize
   eleven end e = let eight : length number ≡ 8 = rw bytes (length-bigEndian 8 counter) in omega arith
 
-  both-put : (s t u : Bytes) (actor : ℕ) → t ≡ putAt s at (0 ∷ actor ∷ 0 ∷ []) → u ≡ putAt t next number → at + 11 ≤ length s → u ≡ putAt s at (tailBytes LabelKey actor counter)
+  both-put : (s t u : Bytes) (actor : ℕ) → t ≡ putAt s at (0 ∷ actor ∷ 0 ∷ []) → u ≡ putAt t next number → at + suffixSize ≤ length s → u ≡ putAt s at (tailBytes LabelKey actor counter)
   both-put s t u actor e f fits = rw bytes at (put-next s t u (0 ∷ actor ∷ 0 ∷ []) number at next e n f (omega arith))
 
 number-bytes-requires : tie.Need-number-bytes-requires

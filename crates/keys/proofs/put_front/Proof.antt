@@ -10,8 +10,9 @@ use Rattle.keys.proofs.Puts.{put-three}
 use borrow.Author.Needs.{needs}
 use Rattle.keys.proofs.put_front.Statement.{statement}
 use Rattle.keys.proofs.put_front.Tie as tie
+use Rattle.keys.specs.Key.{prefixFixed}
 
-all-put : (s t u v name : Bytes) (b n m : ℕ) → t ≡ putAt s 0 (0x02 ∷ 0x01 ∷ []) → n ≡ 0 + 2 → u ≡ putAt t n name → m ≡ n + length name → v ≡ putAt u m (0 ∷ b ∷ []) → length name + 4 ≤ length s
+all-put : (s t u v name : Bytes) (b n m : ℕ) → t ≡ putAt s 0 (0x02 ∷ 0x01 ∷ []) → n ≡ 0 + 2 → u ≡ putAt t n name → m ≡ n + length name → v ≡ putAt u m (0 ∷ b ∷ []) → length name + prefixFixed ≤ length s
     → v ≡ putAt s 0 (frontBytes name b)
 all-put s t u v name b n m e f g h k fits = put-three s t u v (0x02 ∷ 0x01 ∷ []) name (0 ∷ b ∷ []) 0 n m e f g h k (omega arith)
 

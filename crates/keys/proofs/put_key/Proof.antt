@@ -8,7 +8,7 @@ use lib.ListN.{length, length-append}
 use Rattle.wire.specs.Bytes.{Bytes, putAt}
 use Rattle.keys.specs.declared.KeyKind.{KeyKind}
 use Rattle.keys.specs.declared.KeyKind.the-variants.{ClockKey, TombstoneKey, LabelKey, EndKey}
-use Rattle.keys.specs.Key.{keyOf, typeByte, hasLabel, hasActor, afterType, keyBytes}
+use Rattle.keys.specs.Key.{keyOf, typeByte, hasLabel, hasActor, afterType, keyBytes, prefixFixed}
 use Rattle.keys.specs.Parts.{tailLength, frontBytes, tailBytes}
 use Rattle.keys.proofs.Lengths.{length-key}
 use Rattle.keys.proofs.Puts.{put-three}
@@ -24,14 +24,14 @@ tail-kept LabelKey actor counter = refl
 tail-kept EndKey actor counter = refl
 
 module _ (kind : KeyKind) (name label : Bytes) (actor counter : ℕ) (s : Bytes) (fits : length (keyBytes (keyOf kind name label actor counter)) ≤ length s) where
-  front-fits : length name + 4 ≤ length s
+  front-fits : length name + prefixFixed ≤ length s
   front-fits = omega (arith, length-key (keyOf kind name label actor counter))
 
-  module _ (h : Bool) (p u : Bytes) (n : ℕ) (labelled : h ≡ hasLabel kind) (part : p ≡ cond h label []) (after : n ≡ length name + 4) (same : length u ≡ length s) where
+  module _ (h : Bool) (p u : Bytes) (n : ℕ) (labelled : h ≡ hasLabel kind) (part : p ≡ cond h label []) (after : n ≡ length name + prefixFixed) (same : length u ≡ length s) where
     kept : p ≡ cond (hasLabel kind) label []
     kept = rw (← labelled) part
 
-    sizes : length (keyBytes (keyOf kind name label actor counter)) ≡ length name + length p + (4 + tailLength kind)
+    sizes : length (keyBytes (keyOf kind name label actor counter)) ≡ length name + length p + (prefixFixed + tailLength kind)
     sizes = rw kept (length-key (keyOf kind name label actor counter))
 
     label-fits : n + length p ≤ length u

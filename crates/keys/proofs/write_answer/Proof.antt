@@ -13,7 +13,7 @@ use Rattle.wire.specs.Bytes.{Bytes}
 use Rattle.dots.specs.declared.Answer.{Answer}
 use Rattle.dots.specs.declared.Answer.the-variants.{Done, BadName, BadDot, OutputShort}
 use Rattle.keys.specs.declared.KeyKind.{KeyKind}
-use Rattle.keys.specs.Key.{keyOf, hasLabel, namesOk, keyCounterOk}
+use Rattle.keys.specs.Key.{keyOf, hasLabel, namesOk, keyCounterOk, suffixSize, prefixFixed}
 use Rattle.keys.specs.Write.{writeAnswer}
 use Rattle.keys.specs.Parts.{tailLength}
 use Rattle.keys.proofs.Valid.{kept-short}
@@ -36,11 +36,11 @@ module _ (t : KeyKind) (name label : Bytes) (actor : ℕ) (ok : Bool) (tested : 
     kept : p ≡ cond (hasLabel t) label []
     kept = rw (← labelled) part
 
-    size-fits : tail ≤ 11 → Fits w64 (length name + length p + (4 + tail))
+    size-fits : tail ≤ suffixSize → Fits w64 (length name + length p + (prefixFixed + tail))
     size-fits small = let short = kept-short t name label actor 0 (sym tested ∙ not-false ok passed) in let same = ap length kept in record { fits = omega arith }
 
     table : (counter room : ℕ) (fits : Bool) (r₁ r₂ : Answer) → tail ≡ tailLength t → fits ≡ keyCounterOk (keyOf t [] [] 0 counter)
-        → r₁ ≡ cond (ltb room (length name + length p + (4 + tail))) OutputShort Done → r₂ ≡ cond (not fits) BadDot r₁
+        → r₁ ≡ cond (ltb room (length name + length p + (prefixFixed + tail))) OutputShort Done → r₂ ≡ cond (not fits) BadDot r₁
         → r₂ ≡ writeAnswer (keyOf t name label actor counter) room
     unfolding writeAnswer keyCounterOk
     table counter room fits r₁ r₂ e f g i = rw (names-are counter, passed, length-key, i, g, f, e, kept)

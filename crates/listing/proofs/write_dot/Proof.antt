@@ -4,14 +4,14 @@ use mathlib.Core.List.{List}
 use Prim.Native.Nat.{ℕ, _-_, _*_}
 use Rattle.wire.specs.Bytes.{bigEndian, putAt}
 use Rattle.dots.specs.declared.Dot.{Dot}
-use Rattle.dots.specs.Wire.{dotBytes}
+use Rattle.dots.specs.Wire.{dotBytes, dotSize}
 use Rattle.listing.specs.Writing.{labelWritten, dotWritten}
 use borrow.Author.Needs.{needs}
 use Rattle.listing.proofs.write_dot.Statement.{statement}
 use Rattle.listing.proofs.write_dot.Tie as tie
 
-all-put : (s t u v label number bytes : List ℕ) (end count : ℕ) (dot : Dot) → t ≡ labelWritten s end count label → number ≡ bigEndian 2 count → u ≡ putAt t (end - 9 * count - 2) number
-    → bytes ≡ dotBytes dot → v ≡ putAt u (end - 9) bytes → v ≡ dotWritten s end count label dot
+all-put : (s t u v label number bytes : List ℕ) (end count : ℕ) (dot : Dot) → t ≡ labelWritten s end count label → number ≡ bigEndian 2 count → u ≡ putAt t (end - dotSize * count - 2) number
+    → bytes ≡ dotBytes dot → v ≡ putAt u (end - dotSize) bytes → v ≡ dotWritten s end count label dot
 unfolding dotWritten
 all-put s t u v label number bytes end count dot e f g h k = cc
 

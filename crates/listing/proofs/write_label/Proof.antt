@@ -11,15 +11,16 @@ use Rattle.listing.specs.Writing.{labelWritten}
 use borrow.Author.Needs.{needs}
 use Rattle.listing.proofs.write_label.Statement.{statement}
 use Rattle.listing.proofs.write_label.Tie as tie
+use Rattle.listing.specs.Listing.{newLineFixed}
 
 no-label : (s label : List ℕ) (end count : ℕ) → (count ≡ 1 → ⊥) → s ≡ labelWritten s end count label
 unfolding labelWritten
 no-label s label end count more = rw (ne-eqb count 1 more)
 
-label-put : (s t u label : List ℕ) (end count next : ℕ) → count ≡ 1 → t ≡ putAt s (end - 12 - length label) (length label ∷ []) → next ≡ end - 12 - length label + 1
-    → u ≡ putAt t next label → length label + 12 ≤ end → end ≤ length s → u ≡ labelWritten s end count label
+label-put : (s t u label : List ℕ) (end count next : ℕ) → count ≡ 1 → t ≡ putAt s (end - newLineFixed - length label) (length label ∷ []) → next ≡ end - newLineFixed - length label + 1
+    → u ≡ putAt t next label → length label + newLineFixed ≤ end → end ≤ length s → u ≡ labelWritten s end count label
 unfolding labelWritten
-label-put s t u label end count next one e n f room fits = rw (eq-eqb count 1 one) (put-next s t u (length label ∷ []) label (end - 12 - length label) next e n f (omega arith))
+label-put s t u label end count next one e n f room fits = rw (eq-eqb count 1 one) (put-next s t u (length label ∷ []) label (end - newLineFixed - length label) next e n f (omega arith))
 
 returns : tie.Need-returns
 returns c = search (needs, no-label)

@@ -7,8 +7,9 @@ use Rattle.messages.specs.Read.{countedAt, dotsCountedAt, addLayout}
 use borrow.Author.Needs.{needs}
 use Rattle.messages.proofs.add_layout.Statement.{statement}
 use Rattle.messages.proofs.add_layout.Tie as tie
+use Rattle.dots.specs.Wire.{dotSize}
 
-made : (s : Bytes) (kind : ℕ) (name label context : Span) → kind ≡ byteAt s 5 → name ≡ countedAt s 6 → label ≡ countedAt s (endOf name) → context ≡ dotsCountedAt s (endOf label + 9)
+made : (s : Bytes) (kind : ℕ) (name label context : Span) → kind ≡ byteAt s 5 → name ≡ countedAt s 6 → label ≡ countedAt s (endOf name) → context ≡ dotsCountedAt s (endOf label + dotSize)
     → record { kind = kind; name = name; label = label; dot = endOf label; context = context } ≡ addLayout s
 made s kind name label context e f g h = rw (h, g, f, e)
 

@@ -6,8 +6,9 @@ use Rattle.messages.specs.Read.{dotsCountedAt}
 use borrow.Author.Needs.{needs}
 use Rattle.messages.proofs.dots_counted_at.Statement.{statement}
 use Rattle.messages.proofs.dots_counted_at.Tie as tie
+use Rattle.dots.specs.Wire.{dotSize}
 
-made : (s : Bytes) (at count : ℕ) → count ≡ byteAt s at → span (at + 1) (9 * count) ≡ dotsCountedAt s at
+made : (s : Bytes) (at count : ℕ) → count ≡ byteAt s at → span (at + 1) (dotSize * count) ≡ dotsCountedAt s at
 made s at count e = rw e
 
 size-at-requires : tie.Need-size-at-requires

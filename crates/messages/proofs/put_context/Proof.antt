@@ -7,14 +7,14 @@ use lib.ListN.{length, getD}
 use mir.Syntax.{w8}
 use mir.Val.{Fits}
 use Rattle.wire.specs.Bytes.{Bytes, putAt}
-use Rattle.dots.specs.Wire.{dotsOf}
+use Rattle.dots.specs.Wire.{dotsOf, dotSize}
 use Rattle.messages.specs.Message.{contextBytes}
 use Rattle.messages.proofs.Contexts.{context-wire}
 use borrow.Author.Needs.{needs}
 use Rattle.messages.proofs.put_context.Statement.{statement}
 use Rattle.messages.proofs.put_context.Tie as tie
 
-whole-put : (s t context : Bytes) (at : ℕ) → ((i : ℕ) → Fits w8 (getD context i 0)) → length context % 9 ≡ 0 → t ≡ putAt s at (length context / 9 ∷ context)
+whole-put : (s t context : Bytes) (at : ℕ) → ((i : ℕ) → Fits w8 (getD context i 0)) → length context % dotSize ≡ 0 → t ≡ putAt s at (length context / dotSize ∷ context)
     → t ≡ putAt s at (contextBytes (dotsOf context))
 whole-put s t context at small whole e = rw (context-wire context (λ i. let fits = small i in omega arith) whole) e
 

@@ -5,15 +5,15 @@ use native.Mathlib.Omega.{arith}
 use lib.ListN.{length}
 use Rattle.wire.specs.Bytes.{Bytes, putAt}
 use Rattle.dots.specs.declared.Dot.{Dot}
-use Rattle.dots.specs.Wire.{dotBytes}
+use Rattle.dots.specs.Wire.{dotBytes, dotSize}
 use Rattle.dots.proofs.RoundTrip.{length-dot}
 use borrow.Author.Needs.{needs}
 use Rattle.messages.proofs.put_dot.Statement.{statement}
 use Rattle.messages.proofs.put_dot.Tie as tie
 
 module _ (d : Dot) (bytes : Bytes) (dot-is : bytes ≡ dotBytes d) where
-  nine : (at r : ℕ) → r ≡ at + length bytes → r ≡ at + 9
-  nine at r e = let n : length bytes ≡ 9 = rw dot-is (length-dot d) in omega arith
+  nine : (at r : ℕ) → r ≡ at + length bytes → r ≡ at + dotSize
+  nine at r e = let n : length bytes ≡ dotSize = rw dot-is (length-dot d) in omega arith
 
   dot-put : (s t : Bytes) (at : ℕ) → t ≡ putAt s at bytes → t ≡ putAt s at (dotBytes d)
   dot-put s t at e = rw dot-is at e

@@ -6,12 +6,12 @@ use native.Mathlib.Omega.{arith}
 use lib.ListN.{length}
 use Rattle.wire.specs.Bytes.{Bytes, putAt}
 use Rattle.wire.proofs.Fields.{put-next}
-use Rattle.messages.specs.Message.{counted, frontBytes}
+use Rattle.messages.specs.Message.{counted, frontBytes, frontFixed}
 use borrow.Author.Needs.{needs}
 use Rattle.messages.proofs.put_front.Statement.{statement}
 use Rattle.messages.proofs.put_front.Tie as tie
 
-both-put : (s t u name : Bytes) (kind next : ℕ) → t ≡ putAt s 0 (0x50 ∷ 0x54 ∷ 0x4C ∷ 0x00 ∷ 0x01 ∷ kind ∷ []) → next ≡ 0 + 6 → u ≡ putAt t next (counted name) → length name + 7 ≤ length s
+both-put : (s t u name : Bytes) (kind next : ℕ) → t ≡ putAt s 0 (0x50 ∷ 0x54 ∷ 0x4C ∷ 0x00 ∷ 0x01 ∷ kind ∷ []) → next ≡ 0 + 6 → u ≡ putAt t next (counted name) → length name + frontFixed ≤ length s
     → u ≡ putAt s 0 (frontBytes kind name)
 both-put s t u name kind next e n f fits = put-next s t u (0x50 ∷ 0x54 ∷ 0x4C ∷ 0x00 ∷ 0x01 ∷ kind ∷ []) (counted name) 0 next e n f (omega arith)
 

@@ -7,22 +7,22 @@ use lib.ListN.{length, drop, length-append}
 use Rattle.wire.specs.Bytes.{Bytes, putAt}
 use Rattle.wire.proofs.Fields.{put-next, put-front}
 use Rattle.dots.specs.declared.Dot.{Dot}
-use Rattle.dots.specs.Wire.{dotBytes, dotsOf}
+use Rattle.dots.specs.Wire.{dotBytes, dotsOf, dotSize}
 use Rattle.dots.specs.Message.{add}
 use Rattle.dots.proofs.Loops.{length-dotsOf}
 use Rattle.dots.proofs.RoundTrip.{length-dot}
-use Rattle.messages.specs.Message.{addKind, counted, contextBytes, frontBytes, messageBytes}
+use Rattle.messages.specs.Message.{addKind, counted, contextBytes, frontBytes, messageBytes, addFixed, frontFixed}
 use Rattle.messages.specs.Write.{WholeContext}
 use Rattle.messages.proofs.Lengths.{length-add}
 use borrow.Author.Needs.{needs}
 use Rattle.messages.proofs.write_add.Statement.{statement}
 use Rattle.messages.proofs.write_add.Tie as tie
 
-module _ (s name label context : Bytes) (d : Dot) (n₁ n₂ n₃ r : ℕ) (whole : WholeContext context) (e₁ : n₁ ≡ 7 + length name) (e₂ : n₂ ≡ n₁ + 1 + length label) (e₃ : n₃ ≡ n₂ + 9) (e : r ≡ n₃ + 1 + length context) where
+module _ (s name label context : Bytes) (d : Dot) (n₁ n₂ n₃ r : ℕ) (whole : WholeContext context) (e₁ : n₁ ≡ frontFixed + length name) (e₂ : n₂ ≡ n₁ + 1 + length label) (e₃ : n₃ ≡ n₂ + dotSize) (e : r ≡ n₃ + 1 + length context) where
   size : r ≡ length (messageBytes name (add label d (dotsOf context)))
   size = omega (arith, length-add name label d (dotsOf context), length-dotsOf context)
 
-  all-put : (t₁ t₂ t₃ t : Bytes) → length name + length label + length context + 18 ≤ length s
+  all-put : (t₁ t₂ t₃ t : Bytes) → length name + length label + length context + addFixed ≤ length s
       → t₁ ≡ putAt s 0 (frontBytes addKind name) → t₂ ≡ putAt t₁ n₁ (counted label) → t₃ ≡ putAt t₂ n₂ (dotBytes d) → t ≡ putAt t₃ n₃ (contextBytes (dotsOf context))
       → t ≡ messageBytes name (add label d (dotsOf context)) ++ drop r s
   unfolding messageBytes

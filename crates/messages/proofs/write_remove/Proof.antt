@@ -9,18 +9,18 @@ use Rattle.wire.proofs.Fields.{put-next, put-front}
 use Rattle.dots.specs.Wire.{dotsOf}
 use Rattle.dots.specs.Message.{remove}
 use Rattle.dots.proofs.Loops.{length-dotsOf}
-use Rattle.messages.specs.Message.{removeKind, contextBytes, frontBytes, messageBytes}
+use Rattle.messages.specs.Message.{removeKind, contextBytes, frontBytes, messageBytes, removeFixed, frontFixed}
 use Rattle.messages.specs.Write.{WholeContext}
 use Rattle.messages.proofs.Lengths.{length-remove}
 use borrow.Author.Needs.{needs}
 use Rattle.messages.proofs.write_remove.Statement.{statement}
 use Rattle.messages.proofs.write_remove.Tie as tie
 
-module _ (s name context : Bytes) (n r : ℕ) (whole : WholeContext context) (e₁ : n ≡ 7 + length name) (e : r ≡ n + 1 + length context) where
+module _ (s name context : Bytes) (n r : ℕ) (whole : WholeContext context) (e₁ : n ≡ frontFixed + length name) (e : r ≡ n + 1 + length context) where
   size : r ≡ length (messageBytes name (remove (dotsOf context)))
   size = omega (arith, length-remove name (dotsOf context), length-dotsOf context)
 
-  all-put : (t u : Bytes) → length name + length context + 8 ≤ length s → t ≡ putAt s 0 (frontBytes removeKind name) → u ≡ putAt t n (contextBytes (dotsOf context))
+  all-put : (t u : Bytes) → length name + length context + removeFixed ≤ length s → t ≡ putAt s 0 (frontBytes removeKind name) → u ≡ putAt t n (contextBytes (dotsOf context))
       → u ≡ messageBytes name (remove (dotsOf context)) ++ drop r s
   unfolding messageBytes
   all-put t u fits f g =

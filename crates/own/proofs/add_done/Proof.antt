@@ -4,7 +4,7 @@ use mathlib.Core.Path.{_≡_, refl, sym, ap, _∙_, subst}
 use mathlib.Core.Bool.{true, false}
 use mathlib.Core.List.{_∷_}
 use native.Mathlib.Omega.{arith}
-use lib.ListN.{length, getD}
+use lib.ListN.{getD}
 use mir.Syntax.{w8}
 use mir.Val.{Fits}
 use Rattle.dots.specs.declared.Dot.{Dot}
@@ -18,7 +18,7 @@ use Rattle.steps.proofs.Answers.{kept, label-short, padded-tombstone, offer-wit
 use Rattle.steps.proofs.TombstoneBytes.{tombstone-made}
 use Rattle.steps.proofs.Adds.{entry-fits, apply-stored}
 use Rattle.own.proofs.OwnAdd.{own-unseen, add-done-leaves}
-use borrow.Author.Needs.{length-unmapped, needs}
+use borrow.Author.Needs.{elem-fits-field, needs}
 use Rattle.own.proofs.add_done.Statement.{statement}
 use Rattle.own.proofs.add_done.Tie as tie
 
@@ -32,7 +32,7 @@ put-add-requires : tie.Need-put-add-requires
 put-add-requires c κs =
     let s = c .before .before .before .before .before .before .before .before .before .before in
     let p = s .pre .applies in
-    let size = p .name-size in
+    let size = p .sized .name-size in
     let short = kept (s .args .state) (p .joins .state-ok) .short in
     (short, omega arith, label-short _ (p .labelled), (p .joins .fits .whole, p .joins .fits .short), s .pre .room-for)
 
@@ -52,9 +52,8 @@ tombstone-with-context-requires c κs =
     let s = c .before .before .before .before .before .before .before .before .before .before .before .before .before .before .before .before .before .before .before .before .before .before in
     let st = s .args .state in
     let p = s .pre .applies .joins in
-    let size : length (st .tombstone .bytes) ≡ 1152 = length-unmapped ℕ (st .tombstone .bytes) 1152 (s .good .0 .1 .1 .1 .1 .1 .0 .1 .1 .0 .1 .0 .1) in
-    let small : (j : ℕ) → Fits w8 (getD (st .tombstone .bytes) j 0) = search needs in
-    (padded-tombstone st (kept st (p .state-ok)) size small, p .fits, p .few)
+    let small : (j : ℕ) → Fits w8 (getD (st .tombstone .bytes) j 0) = λ j. elem-fits-field w8 w8 (st .tombstone .bytes) (s .good .0 .1 .1 .1 .1 .1 .0 .1 .1 .0 .0) j (s .good .0 .1 .1 .1 .1 .1 .0 .1 .1 .0 .1 .1) tt in
+    (padded-tombstone st (kept st (p .state-ok)) (s .pre .applies .sized) small, p .fits, p .few)
 
 join-with-dot-requires : tie.Need-join-with-dot-requires
 join-with-dot-requires c κs =
@@ -62,7 +61,7 @@ join-with-dot-requires c κs =
     let st = s .args .state in
     let p = s .pre .applies .joins in
     let is = sym (c .before .before .before .before .before .before .before .before .before .before .before .before .before .before .before .before .next-dot .ensures) in (
-      s .pre .applies .words-size,
+      s .pre .applies .sized .words-size,
       subst (λ (d : Dot). OfferWith windowWidth (st .clock .words) (s .args .context .now) d) is (offer-with st (kept st (p .state-ok)) (s .args .context .now) _ (p .fits) (p .dot-ok) (p .new)),
       subst (λ (d : Dot). near windowWidth (st .clock .words) (d ∷ dotsOf (s .args .context .now)) ≡ true) is (p .close),
     )

@@ -1,39 +1,58 @@
 -- The first refusal, or the add applied and the message written.
-use Prim.Native.Nat.{ℕ, _-_, _≤_}
-use mathlib.Core.Path.{_≡_}
 use lib.ListN.{length}
-use Rattle.steps.specs.Tests.{LowPart}
-use Rattle.steps.proofs.DamageTest.{tells-damage, tells-place}
+use mathlib.Core.Path.{_≡_, refl}
+use Rattle.dots.specs.Answer.{firstOf}
+use Rattle.calls.specs.declared.State.{State}
+use Rattle.calls.specs.State.{Sized}
+use Rattle.calls.specs.Damage.{damaged}
+use Rattle.calls.specs.Calls.{ownAddRefusals}
+use Rattle.calls.proofs.Sized.{sized}
+use Rattle.judging.specs.Judging.{Judges}
+use Rattle.judging.proofs.DamageTest.{tells-damage, tells-place}
+use Rattle.judging.proofs.Heads.{at-head, from-head}
+use Rattle.own.specs.Work.{Told, AddAnswers}
 use Rattle.own.proofs.OwnAdd.{own-add-refused, add-whole, may-add, own-add-done}
-use borrow.Author.Needs.{length-unmapped, needs}
+use borrow.Author.Needs.{needs}
 use Rattle.own.proofs.own_add.Statement.{statement}
 use Rattle.own.proofs.own_add.Tie as tie
 
--- the arrays of a state have their lengths
-name-size : (s : tie.Start) → length (s .args .t1 .name .bytes) ≡ 16
-name-size s = length-unmapped ℕ (s .args .t1 .name .bytes) 16 (s .good .0 .1 .1 .1 .0 .1 .1 .0 .1 .0 .1)
+-- the arrays of the state have their sizes
+sizes : (s : tie.Start) → Sized (s .args .t1)
+sizes s = let g = s .good .0 .1 .1 .1 in sized (s .args .t1) (g .0 .1 .1 .0 .1 .0 .1) (g .1 .0 .1 .1 .0 .1 .0 .1) (g .1 .1 .0 .1 .1 .0 .1 .0 .1)
 
-words-size : (s : tie.Start) → length (s .args .t1 .clock .words) ≡ 32
-words-size s = length-unmapped ℕ (s .args .t1 .clock .words) 32 (s .good .0 .1 .1 .1 .1 .0 .1 .1 .0 .1 .0 .1)
+-- what the pass over state and store told
+judged : (c : tie.After-judge) → let s = c .before .before .before .before .before .before .before .before .before .before in Judges (s .args .t1) (s .args .store .now) (s .args .label .now) (c .judge .result)
+judged c =
+    let s = c .before .before .before .before .before .before .before .before .before .before in
+    at-head (s .args .t1) _ (c .before .before .before .before .before .head-of .ensures) (λ (x : State). Judges x (s .args .store .now) (s .args .label .now) (c .judge .result)) (c .judge .ensures)
 
-tombstone-size : (s : tie.Start) → length (s .args .t1 .tombstone .bytes) ≡ 1152
-tombstone-size s = length-unmapped ℕ (s .args .t1 .tombstone .bytes) 1152 (s .good .0 .1 .1 .1 .1 .1 .0 .1 .1 .0 .1 .0 .1)
-
--- where there is no refusal, the pass told a part that the label's keys come after
-abbrev start : tie.Else1 → tie.Start
-start c = c .before .before .before .before .before .before .before .before .before .before .before .before .before .before .before .before .before .before .before .before
-
-told : (c : tie.Else1) → (1 ≤ c .before .before .before .before .before .before .before .before .before .judge .result) × LowPart (start c .args .t1) (start c .args .store .now) (start c .args .label .now) (c .before .before .before .before .before .before .before .before .before .judge .result - 1)
+told : (c : tie.After-is-damage) → let s = c .before .before .before .before .before .before .before .before .before .before .before in c .is-damage .result ≡ damaged (s .args .t1) (s .args .store .now)
 told c =
-    let s = start c in
-    tells-place (s .args .t1) (s .args .store .now) (s .args .label .now) _ (c .before .before .before .before .before .before .before .before .before .judge .ensures)
-    (add-whole (s .args .t1) (s .args .store .now) (s .args .label .now) (s .args .context .now) (s .args .out .now) _ _ (c .before .before .add-answer .ensures) (c .before .number-of .ensures) (c .if1 .left))
+    let s = c .before .before .before .before .before .before .before .before .before .before .before in
+    tells-damage (s .args .t1) (s .args .store .now) (s .args .label .now) _ (judged (c .before)) _ (c .is-damage .ensures)
+
+-- the answer is that of the table
+answered : (c : tie.After-add-answer) → let s = c .before .before .before .before .before .before .before .before .before .before .before .before .before .before .before in
+    c .add-answer .result ≡ firstOf (ownAddRefusals (s .args .t1) (s .args .store .now) (s .args .label .now) (s .args .context .now) (s .args .out .now))
+answered c =
+    let s = c .before .before .before .before .before .before .before .before .before .before .before .before .before .before .before in
+    at-head (s .args .t1) _ (c .before .before .before .before .before .before .before .before .before .before .head-of .ensures) (λ (x : State). AddAnswers x (s .args .label .now) (s .args .context .now) (record { store = length (s .args .store .now); out = length (s .args .out .now); damage = c .before .before .before .before .is-damage .result }) (c .add-answer .result)) (c .add-answer .ensures)
+    (s .args .store .now) (s .args .out .now) refl refl (told (c .before .before .before .before))
+
+head-of-requires : tie.Need-head-of-requires
+head-of-requires c κs = search needs
 
 judge-requires : tie.Need-judge-requires
 judge-requires c κs = search needs
 
+is-damage-requires : tie.Need-is-damage-requires
+is-damage-requires c κs = search needs
+
 add-answer-requires : tie.Need-add-answer-requires
-add-answer-requires c κs = let s = c .before .before .before .before .before .before .before .before .before .before .before .before .before .before .before .before .before in (name-size s, tombstone-size s, tells-damage (s .args .t1) (s .args .store .now) (s .args .label .now) _ (c .before .before .before .before .before .before .judge .ensures))
+add-answer-requires c κs =
+    let s = c .before .before .before .before .before .before .before .before .before .before .before .before .before .before in
+    from-head (s .args .t1) _ (c .before .before .before .before .before .before .before .before .before .head-of .ensures) (λ (x : State). Told x (record { store = length (s .args .store .now); out = length (s .args .out .now); damage = c .before .before .before .is-damage .result }))
+    (record { store = s .args .store .now; sized = sizes s; size = refl; tells = told (c .before .before .before) })
 
 number-of-requires : tie.Need-number-of-requires
 number-of-requires c κs = search needs
@@ -43,17 +62,19 @@ same-length c = search needs
 
 returns : tie.Need-returns
 returns c =
-    let s = c .before .before .before .before .before .before .before .before .before .before .before .before .before .before .before .before .before .before .before .before in
-    own-add-refused (s .args .t1) (s .args .store .now) (s .args .label .now) (s .args .context .now) (s .args .out .now) _ _ (c .before .before .add-answer .ensures) (c .before .number-of .ensures) (c .if1 .taken)
+    let s = c .before .before .before .before .before .before .before .before .before .before .before .before .before .before .before .before .before in
+    own-add-refused (s .args .t1) (s .args .store .now) (s .args .label .now) (s .args .context .now) (s .args .out .now) _ _ (answered (c .before .before)) (c .before .number-of .ensures) (c .if1 .taken)
 
-sub-add-done : tie.Need-sub-add-done
-sub-add-done c = told (c .before .before) .0
+front-of-requires : tie.Need-front-of-requires
+front-of-requires c κs = search needs
 
 add-done-requires : tie.Need-add-done-requires
 add-done-requires c κs =
-    let e = c .before .before in
-    let s = start e in
-    may-add (s .args .t1) (s .args .store .now) (s .args .label .now) (s .args .context .now) (s .args .out .now) _ _ (e .before .before .add-answer .ensures) (e .before .number-of .ensures) (e .if1 .left) (name-size s) (words-size s) _ (told e .1)
+    let e = c .before .before .before in
+    let s = e .before .before .before .before .before .before .before .before .before .before .before .before .before .before .before .before .before in
+    let whole = add-whole (s .args .t1) (s .args .store .now) (s .args .label .now) (s .args .context .now) (s .args .out .now) _ _ (answered (e .before .before)) (e .before .number-of .ensures) (e .if1 .left) in
+    may-add (s .args .t1) (s .args .store .now) (s .args .label .now) (s .args .context .now) (s .args .out .now) _ _ (answered (e .before .before)) (e .before .number-of .ensures) (e .if1 .left) (sizes s) _
+    (tells-place (s .args .t1) (s .args .store .now) (s .args .label .now) _ (judged (e .before .before .before .before .before .before .before)) whole _ (c .front-of .ensures))
 
 same-length-2 : tie.Need-same-length-2
 same-length-2 c = search needs
@@ -63,20 +84,22 @@ same-length-3 c = search needs
 
 returns-2 : tie.Need-returns-2
 returns-2 c =
-    let e = c .before .before .before .before .before .before .before in
-    let s = start e in
-    own-add-done (s .args .t1) (s .args .store .now) (s .args .label .now) (s .args .context .now) (s .args .out .now) _ _ (e .before .before .add-answer .ensures) (e .before .number-of .ensures) (e .if1 .left) _ _ _ (c .before .before .before .before .add-done .ensures)
+    let e = c .before .before .before .before .before .before .before .before in
+    let s = e .before .before .before .before .before .before .before .before .before .before .before .before .before .before .before .before .before in
+    own-add-done (s .args .t1) (s .args .store .now) (s .args .label .now) (s .args .context .now) (s .args .out .now) _ _ (answered (e .before .before)) (e .before .number-of .ensures) (e .if1 .left) _ _ _ (c .before .before .before .before .add-done .ensures)
 
 pub own-add-spec : {M : Type 1} → statement M
 own-add-spec =
     tie.close
     (tie.spec
+    head-of-requires
     judge-requires
+    is-damage-requires
     add-answer-requires
     number-of-requires
     same-length
     returns
-    sub-add-done
+    front-of-requires
     add-done-requires
     same-length-2
     same-length-3

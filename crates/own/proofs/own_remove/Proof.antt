@@ -1,34 +1,77 @@
 -- The first refusal, or the context applied and the message written.
-use Rattle.own.proofs.OwnRemove.{own-remove-refused, may-remove, own-remove-done}
-use Prim.Native.Nat.{ℕ}
-use mathlib.Core.Path.{_≡_}
+use mathlib.Core.Path.{_≡_, refl}
 use lib.ListN.{length}
-use borrow.Author.Needs.{length-unmapped, needs}
+use Rattle.dots.specs.Answer.{firstOf}
+use Rattle.calls.specs.declared.State.{State}
+use Rattle.calls.specs.State.{Sized}
+use Rattle.calls.specs.Damage.{damaged}
+use Rattle.calls.specs.Calls.{ownRemoveRefusals}
+use Rattle.calls.proofs.Sized.{sized}
+use Rattle.judging.proofs.Heads.{at-head, from-head}
+use Rattle.own.specs.Work.{Told, RemoveAnswers}
+use Rattle.own.proofs.OwnRemove.{own-remove-refused, may-remove, own-remove-done}
+use borrow.Author.Needs.{needs}
 use Rattle.own.proofs.own_remove.Statement.{statement}
 use Rattle.own.proofs.own_remove.Tie as tie
 
+-- the arrays of the state have their sizes
+sizes : (s : tie.Start) → Sized (s .args .t1)
+sizes s = let g = s .good .0 .1 .1 .1 in sized (s .args .t1) (g .0 .1 .1 .0 .1 .0 .1) (g .1 .0 .1 .1 .0 .1 .0 .1) (g .1 .1 .0 .1 .1 .0 .1 .0 .1)
+
+told : (c : tie.After-damaged) → let s = c .before .before .before .before .before .before .before .before in c .damaged .result ≡ damaged (s .args .t1) (s .args .store .now)
+told c =
+    let s = c .before .before .before .before .before .before .before .before in
+    at-head (s .args .t1) _ (c .before .before .before .before .head-of .ensures) (λ (x : State). c .damaged .result ≡ damaged x (s .args .store .now)) (c .damaged .ensures)
+
+-- the answer is that of the table
+answered : (c : tie.After-remove-answer) → let s = c .before .before .before .before .before .before .before .before .before .before .before .before in
+    c .remove-answer .result ≡ firstOf (ownRemoveRefusals (s .args .t1) (s .args .store .now) (s .args .context .now) (s .args .out .now))
+answered c =
+    let s = c .before .before .before .before .before .before .before .before .before .before .before .before in
+    at-head (s .args .t1) _ (c .before .before .before .before .before .before .before .before .head-of .ensures) (λ (x : State). RemoveAnswers x (s .args .context .now) (record { store = length (s .args .store .now); out = length (s .args .out .now); damage = c .before .before .before .before .damaged .result }) (c .remove-answer .result)) (c .remove-answer .ensures)
+    (s .args .store .now) (s .args .out .now) refl refl (told (c .before .before .before .before))
+
+head-of-requires : tie.Need-head-of-requires
+head-of-requires c κs = search needs
+
+damaged-requires : tie.Need-damaged-requires
+damaged-requires c κs = search needs
+
 remove-answer-requires : tie.Need-remove-answer-requires
-remove-answer-requires c κs = search needs
+remove-answer-requires c κs =
+    let s = c .before .before .before .before .before .before .before .before .before .before .before in
+    from-head (s .args .t1) _ (c .before .before .before .before .before .before .before .head-of .ensures) (λ (x : State). Told x (record { store = length (s .args .store .now); out = length (s .args .out .now); damage = c .before .before .before .damaged .result }))
+    (record { store = s .args .store .now; sized = sizes s; size = refl; tells = told (c .before .before .before) })
 
 number-of-requires : tie.Need-number-of-requires
 number-of-requires c κs = search needs
 
 returns : tie.Need-returns
-returns c = let s = c .before .before .before .before .before .before .before .before .before .before .before in own-remove-refused (s .args .t1) (s .args .store .now) (s .args .context .now) (s .args .out .now) _ _ (c .before .before .remove-answer .ensures) (c .before .number-of .ensures) (c .if1 .taken)
+returns c =
+    let s = c .before .before .before .before .before .before .before .before .before .before .before .before .before .before in
+    own-remove-refused (s .args .t1) (s .args .store .now) (s .args .context .now) (s .args .out .now) _ _ (answered (c .before .before)) (c .before .number-of .ensures) (c .if1 .taken)
 
 remove-done-requires : tie.Need-remove-done-requires
-remove-done-requires c κs = let s = c .before .before .before .before .before .before .before .before .before .before .before .before in let size : length (s .args .t1 .name .bytes) ≡ 16 = search needs in let words : length (s .args .t1 .clock .words) ≡ 32 = search needs in may-remove (s .args .t1) (s .args .store .now) (s .args .context .now) (s .args .out .now) _ _ (c .before .before .before .remove-answer .ensures) (c .before .before .number-of .ensures) (c .before .if1 .left) size words
+remove-done-requires c κs =
+    let e = c .before in
+    let s = e .before .before .before .before .before .before .before .before .before .before .before .before .before .before in
+    may-remove (s .args .t1) (s .args .store .now) (s .args .context .now) (s .args .out .now) _ _ (answered (e .before .before)) (e .before .number-of .ensures) (e .if1 .left) (sizes s)
 
 same-length : tie.Need-same-length
 same-length c = search needs
 
 returns-2 : tie.Need-returns-2
-returns-2 c = let s = c .before .before .before .before .before .before .before .before .before .before .before .before .before .before .before in let size : length (s .args .t1 .name .bytes) ≡ 16 = length-unmapped ℕ (s .args .t1 .name .bytes) 16 (s .good .0 .1 .1 .1 .0 .1 .1 .0 .1 .0 .1) in own-remove-done (s .args .t1) (s .args .store .now) (s .args .context .now) (s .args .out .now) _ _ (c .before .before .before .before .before .before .remove-answer .ensures) (c .before .before .before .before .before .number-of .ensures) (c .before .before .before .before .if1 .left) size _ _ (c .before .before .remove-done .ensures)
+returns-2 c =
+    let e = c .before .before .before .before in
+    let s = e .before .before .before .before .before .before .before .before .before .before .before .before .before .before in
+    own-remove-done (s .args .t1) (s .args .store .now) (s .args .context .now) (s .args .out .now) _ _ (answered (e .before .before)) (e .before .number-of .ensures) (e .if1 .left) (sizes s) _ _ (c .before .before .remove-done .ensures)
 
 pub own-remove-spec : {M : Type 1} → statement M
 own-remove-spec =
     tie.close
     (tie.spec
+    head-of-requires
+    damaged-requires
     remove-answer-requires
     number-of-requires
     returns

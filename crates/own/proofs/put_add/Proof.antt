@@ -1,5 +1,5 @@
 -- The name is the front of the bytes.
-use Rattle.steps.proofs.Parts.{front-size}
+use Rattle.judging.proofs.Parts.{front-size}
 use borrow.Author.Needs.{needs}
 use Rattle.own.proofs.put_add.Statement.{statement}
 use Rattle.own.proofs.put_add.Tie as tie

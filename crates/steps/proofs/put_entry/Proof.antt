@@ -1,5 +1,5 @@
 -- The name is the front of the bytes.
-use Rattle.steps.proofs.Parts.{front-size}
+use Rattle.judging.proofs.Parts.{front-size}
 use borrow.Author.Needs.{needs}
 use Rattle.steps.proofs.put_entry.Statement.{statement}
 use Rattle.steps.proofs.put_entry.Tie as tie

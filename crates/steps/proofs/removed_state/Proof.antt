@@ -1,17 +1,22 @@
 -- The tombstone and the clock take the context; all else stays.
 use Rattle.steps.proofs.Answers.{kept, padded-tombstone, offer}
-use mathlib.Core.Path.{_≡_}
 use Prim.Native.Nat.{ℕ}
-use lib.ListN.{length, getD}
+use lib.ListN.{getD}
 use mir.Val.{Fits}
 use mir.Syntax.{w8}
 use Rattle.steps.proofs.Answers.{with-parts}
+use Rattle.calls.proofs.Sized.{sized}
 use borrow.Author.Needs.{needs}
 use Rattle.steps.proofs.removed_state.Statement.{statement}
 use Rattle.steps.proofs.removed_state.Tie as tie
+use Rattle.calls.specs.State.{Sized}
+
+-- the arrays of the state have their sizes
+sizes : (s : tie.Start) → Sized (s .args .state)
+sizes s = let g = s .good .0 .1 .1 .1 in sized (s .args .state) (g .0 .1 .1 .0 .1 .0 .1) (g .1 .0 .1 .1 .0 .1 .0 .1) (g .1 .1 .0 .1 .1 .0 .1 .0 .1)
 
 next-tombstone-requires : tie.Need-next-tombstone-requires
-next-tombstone-requires c κs = let s = c .before .before .before .before .before in let size : length (s .args .state .tombstone .bytes) ≡ 1152 = search needs in let small : (j : ℕ) → Fits w8 (getD (s .args .state .tombstone .bytes) j 0) = search needs in (padded-tombstone (s .args .state) (kept (s .args .state) (s .pre .0)) size small, s .pre .1, s .pre .3)
+next-tombstone-requires c κs = let s = c .before .before .before .before .before in let small : (j : ℕ) → Fits w8 (getD (s .args .state .tombstone .bytes) j 0) = search needs in (padded-tombstone (s .args .state) (kept (s .args .state) (s .pre .0)) (sizes s) small, s .pre .1, s .pre .3)
 
 clock-with-context-requires : tie.Need-clock-with-context-requires
 clock-with-context-requires c κs = let s = c .before .before .before .before .before .before in (offer (s .args .state) (kept (s .args .state) (s .pre .0)) (s .args .context .now) (s .pre .1), s .pre .2)

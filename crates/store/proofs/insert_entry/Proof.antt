@@ -8,7 +8,7 @@ use lib.ListN.{length, take, drop}
 use lib.Seq.{take-at}
 use Rattle.wire.specs.Lists.{all}
 use Rattle.wire.specs.Bytes.{Bytes, startsWith, putAt, insertedAt}
-use Rattle.dots.specs.Names.{Name, Label, nameOk, labelOk}
+use Rattle.dots.specs.Names.{Name, Label, nameOk, labelOk, nameMost, labelMost}
 use Rattle.dots.specs.declared.Dot.{Dot}
 use Rattle.dots.specs.Entries.{entry}
 use Rattle.keys.specs.Entry.{prefix, suffix, entryKey}
@@ -19,26 +19,27 @@ use Rattle.store.proofs.Starts.{name-most, label-most, label-some, put-
 use borrow.Author.Needs.{needs}
 use Rattle.store.proofs.insert_entry.Statement.{statement}
 use Rattle.store.proofs.insert_entry.Tie as tie
+use Rattle.keys.specs.Key.{labelKeyFixed, prefixFixed}
 
-fits : (name : Name) (label : Label) → nameOk name ≡ true → labelOk label ≡ true → length name + length label + 15 ≤ 63
+fits : (name : Name) (label : Label) → nameOk name ≡ true → labelOk label ≡ true → length name + length label + labelKeyFixed ≤ nameMost + labelMost + labelKeyFixed
 fits name label ok ok′ = omega (arith, name-most name ok, label-most label ok′)
 
-module _ (name : Name) (label : Label) (d : Dot) (s t store : Bytes) (n used : ℕ) (put : t ≡ putAt s 0 (entryKey name (entry label d))) (count : n ≡ length name + length label + 15) where
+module _ (name : Name) (label : Label) (d : Dot) (s t store : Bytes) (n used : ℕ) (put : t ≡ putAt s 0 (entryKey name (entry label d))) (count : n ≡ length name + length label + labelKeyFixed) where
   key-read : take n t ≡ entryKey name (entry label d)
-  key-read = put-read s t (entryKey name (entry label d)) n (length name + length label + 15) put count (length-entry-key name (entry label d))
+  key-read = put-read s t (entryKey name (entry label d)) n (length name + length label + labelKeyFixed) put count (length-entry-key name (entry label d))
 
   long : labelOk label ≡ true → length name + 12 ≤ length (take n t)
   long ok = rw (key-read, length-entry-key) (omega (arith, label-some label ok))
 
   -- the keys from `low` on, among which its place is
   module _ (low : ℕ) (p : Passed (length name) (prefix name ++ label) (take used store) low) where
-    begin : all (startsWith (prefix name)) (keysOf (length name) (take used store)) ≡ true → all (startsWith (take (length name + 4) (take n t))) (keysOf (length name) (drop low (take used store))) ≡ true
-    begin every = rw (key-read, entry-key-parts, take-at (prefix name) _ (length name + 4) (length-prefix name)) (p .rest (startsWith (prefix name)) every)
+    begin : all (startsWith (prefix name)) (keysOf (length name) (take used store)) ≡ true → all (startsWith (take (length name + prefixFixed) (take n t))) (keysOf (length name) (drop low (take used store))) ≡ true
+    begin every = rw (key-read, entry-key-parts, take-at (prefix name) _ (length name + prefixFixed) (length-prefix name)) (p .rest (startsWith (prefix name)) every)
 
     placed : placeIn (take n t) (keysOf (length name) (take used store)) ≡ low + placeIn (take n t) (keysOf (length name) (drop low (take used store)))
     placed = rw (key-read, entry-key-parts) (rw append-assoc at (p .placed (suffix d)))
 
-  room : used + (length name + length label + 15) ≤ length store → used + length (take n t) ≤ length store
+  room : used + (length name + length label + labelKeyFixed) ≤ length store → used + length (take n t) ≤ length store
   room h = rw (key-read, length-entry-key) h
 
   inserted : (store′ : Bytes) → store′ ≡ insertedAt store used (placeIn (take n t) (keysOf (length name) (take used store))) (take n t)

@@ -8,43 +8,46 @@ use lib.ListN.{length, take}
 use lib.Seq.{length-take-le}
 use borrow.Author.Tests.{lt-leb, le-leb}
 use Rattle.wire.specs.Bytes.{Bytes}
-use Rattle.dots.specs.Names.{Name, nameOk}
+use Rattle.dots.specs.Names.{Name, nameOk, nameMost}
 use Rattle.keys.proofs.EntryKeys.{length-prefix}
 use Rattle.wire.specs.Lists.{all, ascends}
 use Rattle.store.specs.Cut.{keysAfter}
+use Rattle.store.specs.declared.Judgement.{Judgement}
+use Rattle.store.specs.declared.Judgement.the-variants.{Sound}
 use Rattle.store.specs.Place.{Judged}
-use Rattle.store.specs.Valid.{usedOk, storeOk}
+use Rattle.store.specs.Valid.{usedOk, storeOk, storeMost}
 use Rattle.store.proofs.LowFront.{passed-none, judged-bad, judged-good}
 use Rattle.store.proofs.Starts.{name-most, put-read, put-size, put-room}
 use borrow.Author.Needs.{needs}
 use Rattle.store.proofs.judge.Statement.{statement}
 use Rattle.store.proofs.judge.Tie as tie
+use Rattle.keys.specs.Key.{prefixFixed}
 
 module _ (name : Name) (words : List ℕ) (store : Bytes) (used : ℕ) where
-  too-long : 65536 < length store → false ≡ storeOk name words store used
+  too-long : storeMost < length store → false ≡ storeOk name words store used
   unfolding storeOk
-  too-long h = rw (lt-leb (length store) 65536 h)
+  too-long h = rw (lt-leb (length store) storeMost h)
 
-  module _ (most : length store ≤ 65536) where
+  module _ (most : length store ≤ storeMost) where
     past-end : length store < used → false ≡ storeOk name words store used
     unfolding storeOk
-    past-end h = rw (le-leb (length store) 65536 most, lt-leb used (length store) h)
+    past-end h = rw (le-leb (length store) storeMost most, lt-leb used (length store) h)
 
     by-keys : used ≤ length store → usedOk name words (take used store) ≡ storeOk name words store used
     unfolding storeOk
-    by-keys h = rw (le-leb (length store) 65536 most, le-leb used (length store) h)
+    by-keys h = rw (le-leb (length store) storeMost most, le-leb used (length store) h)
 
-    judged : (n : ℕ) (start : Bytes) (r : ℕ) → used ≤ length store → Judged (usedOk name words (take used store)) n start (take used store) r → Judged (storeOk name words store used) n start (take used store) r
+    judged : (n : ℕ) (start : Bytes) (r : Judgement) → used ≤ length store → Judged (usedOk name words (take used store)) n start (take used store) r → Judged (storeOk name words store used) n start (take used store) r
     judged n start r h j = rw (← by-keys h) j
 
     -- no keys at all
-    none : (n : ℕ) (start : Bytes) → used ≡ 0 → Judged (storeOk name words store used) n start (take used store) 1
+    none : (n : ℕ) (start : Bytes) → used ≡ 0 → Judged (storeOk name words store used) n start (take used store) (Sound 0)
     unfolding usedOk keysAfter all ascends
     none n start e =
         let ok : true ≡ usedOk name words (take used store) = rw e in
         judged-good n start (take used store) (storeOk name words store used) 0 (ok ∙ by-keys (omega arith)) (passed-none n start (take used store))
 
-fits : (name : Name) → nameOk name ≡ true → length name + 4 ≤ 20
+fits : (name : Name) → nameOk name ≡ true → length name + prefixFixed ≤ nameMost + prefixFixed
 fits name ok = omega (arith, name-most name ok)
 
 used-size : (store : Bytes) (used : ℕ) → used ≤ length store → used ≡ length (take used store)

@@ -19,6 +19,7 @@ use Rattle.store.proofs.LowFront.{passed-none, passed-next, low-next, j
 use borrow.Author.Needs.{needs}
 use Rattle.store.proofs.judge_keys.Statement.{statement}
 use Rattle.store.proofs.judge_keys.Tie as tie
+use Rattle.keys.specs.Key.{prefixFixed}
 
 abbrev Inv-loop : tie.InvT-loop
 Inv-loop name start words keys label wanted word₀ half₀ last₀ at₀ low₀ word half last at low =
@@ -97,7 +98,7 @@ loop-again c =
     let more = c .before .before .before .before .before .before .before .before .loop-test .taken in
     let word = c .before .before .before .before .number-at .result in
     let half = c .before .before .before .half-at .result in
-    let next = l .at + (length name + 4) in
+    let next = l .at + (length name + prefixFixed) in
     let small : (i : ℕ) → Fits w8 (getD keys i 0) = search needs in
     let small′ : (i : ℕ) → Fits w8 (getD label i 0) = search needs in
     let new : FirstNumbers keys next (l .at + len) word half = search (needs, numbers-read) in
@@ -112,9 +113,6 @@ loop-again c =
           (λ h tail. key-below name _ keys (l .at) len read some (λ i. small i .fits) label tail (λ i. small′ i .fits) more (rw (wanted, number) at h)),
       λ h. low-next (length name) (prefix name ++ label) keys (l .at) len more size (l .low) word _ _ (c .pick-place .ensures) h,
     )
-
-add-result : tie.Need-add-result Inv-loop μ-loop
-add-result c = search needs
 
 returns-3 : tie.Need-returns-3 Inv-loop μ-loop
 returns-3 c = search (needs, ended, judged-good)
@@ -143,5 +141,4 @@ judge-keys-spec =
     pick-place-requires
     loop-less
     loop-again
-    add-result
     returns-3)

@@ -9,20 +9,21 @@ use Rattle.store.specs.Cut.{keyLength}
 use borrow.Author.Needs.{needs}
 use Rattle.store.proofs.key_length.Statement.{statement}
 use Rattle.store.proofs.key_length.Tie as tie
+use Rattle.keys.specs.Key.{suffixSize, prefixFixed}
 
-all-short : (n : ℕ) (s : Bytes) → length s < n + 4 → length s ≡ keyLength n s
+all-short : (n : ℕ) (s : Bytes) → length s < n + prefixFixed → length s ≡ keyLength n s
 unfolding keyLength
 all-short n s h = omega arith
 
-module _ (n : ℕ) (s : Bytes) (z : ℕ) (e : z ≡ zeroAt (take (length s - (n + 4)) (drop (n + 4) s))) where
-  at-zero : z ≡ zeroAt (drop (n + 4) s)
+module _ (n : ℕ) (s : Bytes) (z : ℕ) (e : z ≡ zeroAt (take (length s - (n + prefixFixed)) (drop (n + prefixFixed) s))) where
+  at-zero : z ≡ zeroAt (drop (n + prefixFixed) s)
   at-zero = rw rest-part at e
 
-  all : length s < n + 4 + z + 11 → length s ≡ keyLength n s
+  all : length s < n + prefixFixed + z + suffixSize → length s ≡ keyLength n s
   unfolding keyLength
   all h = omega (arith, at-zero)
 
-  by-zero : n + 4 + z + 11 ≤ length s → n + 4 + z + 11 ≡ keyLength n s
+  by-zero : n + prefixFixed + z + suffixSize ≤ length s → n + prefixFixed + z + suffixSize ≡ keyLength n s
   unfolding keyLength
   by-zero h = omega (arith, at-zero)
 

@@ -15,10 +15,11 @@ use Rattle.store.proofs.Walk.{end-within, end-fits, walk-falls, every-h
 use borrow.Author.Needs.{needs}
 use Rattle.store.proofs.place_after.Statement.{statement}
 use Rattle.store.proofs.place_after.Tie as tie
+use Rattle.keys.specs.Key.{prefixFixed}
 
 abbrev Inv-loop : tie.InvT-loop
 Inv-loop n keys key low from wanted at₀ at =
-    (at ≤ length keys) × ((placeIn key (keysOf n keys) ≡ at + placeIn key (keysOf n (drop at keys))) × (all (startsWith (take (n + 4) key)) (keysOf n (drop at keys)) ≡ true))
+    (at ≤ length keys) × ((placeIn key (keysOf n keys) ≡ at + placeIn key (keysOf n (drop at keys))) × (all (startsWith (take (n + prefixFixed) key)) (keysOf n (drop at keys)) ≡ true))
 
 abbrev μ-loop : tie.MeasureT-loop
 μ-loop n keys key low from wanted at₀ at = length keys - at
@@ -28,12 +29,12 @@ common : (key s : List ℕ) (m : ℕ) → m ≤ length key → startsWith (take 
 common key s m h t = ap (take m) (sym (starts-split (take m key) s t)) ∙ take-at (take m key) _ m (length-take-le m key h)
 
 module _ (n : ℕ) (keys key : List ℕ) (at len : ℕ) (more : at < length keys) (read : len ≡ keyLength n (take (length keys - at) (drop at keys)))
-    (every : all (startsWith (take (n + 4) key)) (keysOf n (drop at keys)) ≡ true) where
-  begins : n + 12 ≤ length key → take (n + 4) (take (at + len - at) (drop at keys)) ≡ take (n + 4) key
-  begins h = common key _ (n + 4) (omega arith) (every-here n keys at len more read (startsWith (take (n + 4) key)) every)
+    (every : all (startsWith (take (n + prefixFixed) key)) (keysOf n (drop at keys)) ≡ true) where
+  begins : n + 12 ≤ length key → take (n + prefixFixed) (take (at + len - at) (drop at keys)) ≡ take (n + prefixFixed) key
+  begins h = common key _ (n + prefixFixed) (omega arith) (every-here n keys at len more read (startsWith (take (n + prefixFixed) key)) every)
 
-  begin-later : all (startsWith (take (n + 4) key)) (keysOf n (drop (at + len) keys)) ≡ true
-  begin-later = every-later n keys at len more read (startsWith (take (n + 4) key)) every
+  begin-later : all (startsWith (take (n + prefixFixed) key)) (keysOf n (drop (at + len) keys)) ≡ true
+  begin-later = every-later n keys at len more read (startsWith (take (n + prefixFixed) key)) every
 
 add-from : tie.Need-add-from Inv-loop μ-loop
 add-from c = search needs

@@ -16,8 +16,9 @@ use Rattle.store.proofs.Starts.{length-label-start}
 use borrow.Author.Needs.{needs}
 use Rattle.store.proofs.put_key.Statement.{statement}
 use Rattle.store.proofs.put_key.Tie as tie
+use Rattle.keys.specs.Key.{labelKeyFixed}
 
-module _ (s t u v bytes : Bytes) (name : Name) (label : Label) (d : Dot) (at next : ℕ) (fits : length name + length label + 15 ≤ length s)
+module _ (s t u v bytes : Bytes) (name : Name) (label : Label) (d : Dot) (at next : ℕ) (fits : length name + length label + labelKeyFixed ≤ length s)
     (front : t ≡ putAt s 0 (labelStart name label)) (at-is : at ≡ length name + length label + 5) (actor : u ≡ putAt t at (d .actor .number ∷ 0 ∷ [])) (next-is : next ≡ at + 2)
     (counter : bytes ≡ bigEndian 8 (d .counter .number)) (counted : v ≡ putAt u next bytes) where
   all-put : v ≡ putAt s 0 (entryKey name (entry label d))

@@ -13,13 +13,14 @@ use Rattle.store.specs.Place.{labelStart}
 use borrow.Author.Needs.{needs}
 use Rattle.store.proofs.put_label_start.Statement.{statement}
 use Rattle.store.proofs.put_label_start.Tie as tie
+use Rattle.keys.specs.Key.{prefixFixed}
 
 module _ (s t u v : Bytes) (name : Name) (label : Label) (at end : ℕ) (fits : length name + length label + 5 ≤ length s)
-    (front : t ≡ putAt s 0 (prefix name)) (at-is : at ≡ length name + 4) (labelled : u ≡ putAt t at label) (end-is : end ≡ at + length label) (ended : v ≡ putAt u end (0 ∷ [])) where
+    (front : t ≡ putAt s 0 (prefix name)) (at-is : at ≡ length name + prefixFixed) (labelled : u ≡ putAt t at label) (end-is : end ≡ at + length label) (ended : v ≡ putAt u end (0 ∷ [])) where
   all-put : v ≡ putAt s 0 (labelStart name label)
   unfolding labelStart
   all-put =
-      let size : length (prefix name) ≡ length name + 4 = length-prefix name in
+      let size : length (prefix name) ≡ length name + prefixFixed = length-prefix name in
       let two : u ≡ putAt s 0 (prefix name ++ label) = put-next s t u (prefix name) label 0 at front (omega arith) labelled (omega arith) in
       rw append-assoc at (put-next s u v (prefix name ++ label) (0 ∷ []) 0 end two (rw length-append (omega arith)) ended (omega arith))
 

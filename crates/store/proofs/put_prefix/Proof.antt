@@ -10,8 +10,9 @@ use Rattle.keys.specs.Entry.{prefix}
 use borrow.Author.Needs.{needs}
 use Rattle.store.proofs.put_prefix.Statement.{statement}
 use Rattle.store.proofs.put_prefix.Tie as tie
+use Rattle.keys.specs.Key.{prefixFixed}
 
-module _ (s t u v name : Bytes) (next end : ℕ) (fits : length name + 4 ≤ length s)
+module _ (s t u v name : Bytes) (next end : ℕ) (fits : length name + prefixFixed ≤ length s)
     (head : t ≡ putAt s 0 (2 ∷ 1 ∷ [])) (next-is : next ≡ 0 + 2) (named : u ≡ putAt t next name) (end-is : end ≡ next + length name) (tail : v ≡ putAt u end (0 ∷ 101 ∷ [])) where
   all-put : v ≡ putAt s 0 (prefix name)
   unfolding prefix

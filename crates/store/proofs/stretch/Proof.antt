@@ -7,7 +7,7 @@ use native.Mathlib.Omega.{arith}
 use lib.ListN.{length, take, drop}
 use denote.Ref.{RefT}
 use Rattle.wire.specs.Bytes.{Bytes, startsWith, putAt, IsPart}
-use Rattle.dots.specs.Names.{Name, Label, nameOk, labelOk}
+use Rattle.dots.specs.Names.{Name, Label, nameOk, labelOk, nameMost, labelMost}
 use Rattle.keys.specs.Entry.{prefix}
 use Rattle.store.specs.Cut.{keysOf}
 use Rattle.store.specs.Place.{lengthWhile, placeIn, labelStart, stretchStart, stretchEnd, Passed}
@@ -15,8 +15,9 @@ use Rattle.store.proofs.Starts.{name-most, label-most, length-label-sta
 use borrow.Author.Needs.{needs}
 use Rattle.store.proofs.stretch.Statement.{statement}
 use Rattle.store.proofs.stretch.Tie as tie
+use Rattle.keys.specs.Key.{prefixFixed}
 
-fits : (name : Name) (label : Label) → nameOk name ≡ true → labelOk label ≡ true → length name + length label + 5 ≤ 53
+fits : (name : Name) (label : Label) → nameOk name ≡ true → labelOk label ≡ true → length name + length label + (prefixFixed + 1) ≤ nameMost + labelMost + (prefixFixed + 1)
 fits name label ok ok′ = omega (arith, name-most name ok, label-most label ok′)
 
 module _ (name : Name) (label : Label) (s t : Bytes) (n : ℕ) (put : t ≡ putAt s 0 (labelStart name label)) (count : n ≡ length name + length label + 5) where

@@ -1,23 +1,24 @@
 //! The sets of labels and the set names that messages are taken in with.
 
 use crate::random::Random;
+use limits::LABEL_MAX;
 
 /// How labels look.
 #[derive(Clone, Copy, PartialEq, Eq, Debug)]
 pub enum Labels {
     /// Of 1 to 3 bytes.
     Short,
-    /// Of 1 to 32 bytes.
+    /// Of any length.
     Mixed,
     /// Rack, shelf and bin, as in `R4-S012-B07`.
     Bins,
-    /// Of 32 bytes, the first 27 the same.
+    /// Of the longest length, all but the last 5 bytes the same.
     Deep,
 }
 
 pub const SETS: [Labels; 4] = [Labels::Short, Labels::Mixed, Labels::Bins, Labels::Deep];
 
-/// Set names of 2 and of 16 bytes.
+/// A short set name, and one of the longest length.
 pub const NAMES: [&[u8]; 2] = [b"R1", b"warehouse-07-R1a"];
 
 const LETTERS: &[u8] = b"0123456789ABCDEFGHIJKLMNOPQRSTUVWXYZ";
@@ -40,7 +41,7 @@ impl Labels {
                 letters(random, length)
             }
             Labels::Mixed => {
-                let length = random.between(1, 32);
+                let length = random.between(1, LABEL_MAX);
                 letters(random, length)
             }
             Labels::Bins => {

@@ -1,6 +1,6 @@
 //! The floor: a plain copy and a plain compare of as many bytes as the calls find used.
 
-use ptl::STORE_MAX;
+use limits::STORE_MAX;
 use std::hint::black_box;
 use std::time::Instant;
 

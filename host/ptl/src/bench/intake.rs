@@ -2,16 +2,18 @@
 
 use super::data::Labels;
 use super::messages::messages;
-use super::pairs::{first_difference, pairs, Workload};
+use super::pairs::{differing_byte, first_difference, pairs, Workload};
 use super::table::Row;
 use super::{floor, Plan, Stopped};
 use crate::compare::Engines;
 use crate::engine::Engine;
 use crate::random::Random;
-use ptl::{read_message, Actor, Message, State, STORE_MAX};
+use crate::script::Rack;
+use limits::{label_key_size, ANSWERS, STORE_MAX};
+use ptl::{read_message, Actor, Message, State};
 
 /// How often each answer was given.
-pub type Answers = [usize; 14];
+pub type Answers = [usize; ANSWERS];
 
 /// The messages, and a controller that has seen nothing.
 struct Intake {
@@ -21,8 +23,7 @@ struct Intake {
 
 #[derive(Clone)]
 struct Buffers {
-    state: State,
-    store: Vec<u8>,
+    rack: Rack,
     answers: Vec<u8>,
 }
 
@@ -36,18 +37,15 @@ impl Workload for Intake {
     fn run(&self, engine: &dyn Engine, buffers: &mut Buffers) {
         let answers = buffers.answers.iter_mut();
         for (message, answer) in self.messages.iter().zip(answers) {
-            *answer = engine.take_in(&mut buffers.state, &mut buffers.store, message);
+            *answer = engine.take_in(&mut buffers.rack, message);
         }
     }
 
     fn difference(&self, left: &[Buffers; 2]) -> Option<String> {
         let [product, other] = left;
         let answers = [product.answers.as_slice(), &other.answers];
-        let states = [product.state.block().as_slice(), other.state.block()];
-        let stores = [product.store.as_slice(), &other.store];
         first_difference("answer to message", answers)
-            .or_else(|| first_difference("state byte", states))
-            .or_else(|| first_difference("store byte", stores))
+            .or_else(|| differing_byte(&product.rack, &other.rack))
     }
 }
 
@@ -79,9 +77,9 @@ fn prepare(set: Labels, name: &[u8], number: usize) -> Intake {
     state.set_actor(Actor(1));
     state.set_name(name);
     let room = keys_length(&messages, name.len()) * 9 / 10;
+    let store = vec![0; room.min(STORE_MAX)];
     let start = Buffers {
-        state,
-        store: vec![0; room.min(STORE_MAX)],
+        rack: Rack { state, store },
         answers: vec![u8::MAX; messages.len()],
     };
     Intake { messages, start }
@@ -93,7 +91,7 @@ fn keys_length(messages: &[Vec<u8>], name: usize) -> usize {
     for message in messages {
         if let Ok(Message::Add { label, dot, .. }) = read_message(message) {
             if dot.counter.0 < 1_000_000 {
-                adds.insert(dot, name + label.0.len() + 15);
+                adds.insert(dot, label_key_size(name, label.0.len()));
             }
         }
     }
@@ -102,15 +100,11 @@ fn keys_length(messages: &[Vec<u8>], name: usize) -> usize {
 
 /// How often each answer is given, and the used bytes that each call finds.
 fn watch(intake: &Intake, engine: &dyn Engine) -> (Answers, Vec<usize>) {
-    let Buffers {
-        mut state,
-        mut store,
-        ..
-    } = intake.start.clone();
-    let (mut answers, mut used) = ([0; 14], Vec::new());
+    let mut rack = intake.start.rack.clone();
+    let (mut answers, mut used) = ([0; ANSWERS], Vec::new());
     for message in &intake.messages {
-        used.push(state.used() as usize);
-        let answer = engine.take_in(&mut state, &mut store, message);
+        used.push(rack.used());
+        let answer = engine.take_in(&mut rack, message);
         if let Some(count) = answers.get_mut(usize::from(answer)) {
             *count += 1;
         }
@@ -123,6 +117,7 @@ mod tests {
     use super::super::data::{NAMES, SETS};
     use super::*;
     use crate::engine::Product;
+    use limits::{KEY_MAX, STATE_SIZE};
 
     #[test]
     fn every_kind_of_message_is_among_them_and_the_store_fills_up() {
@@ -137,7 +132,10 @@ mod tests {
                 assert!(answers[0] > 1_000, "{set:?} {answers:?}");
                 assert_eq!((answers[1], answers[8], answers[11]), (0, 0, 0));
                 let last = used.last().copied().unwrap_or(0);
-                assert!(intake.start.store.len() - last < 64, "{set:?} {last}");
+                assert!(
+                    intake.start.rack.store.len() - last <= KEY_MAX,
+                    "{set:?} {last}"
+                );
             }
         }
     }
@@ -157,9 +155,9 @@ mod tests {
         assert_eq!(with(|_| ()), None);
         let answer = with(|buffers| buffers.answers[7] ^= 1);
         assert_eq!(first(answer).as_deref(), Some("answer to message 7"));
-        let state = with(|buffers| buffers.state.block_mut()[1448] ^= 1);
-        assert_eq!(first(state).as_deref(), Some("state byte 1448"));
-        let store = with(|buffers| buffers.store[5] ^= 1);
+        let state = with(|buffers| buffers.rack.state.block_mut()[STATE_SIZE - 1] ^= 1);
+        assert_eq!(first(state), Some(format!("state byte {}", STATE_SIZE - 1)));
+        let store = with(|buffers| buffers.rack.store[5] ^= 1);
         assert_eq!(first(store).as_deref(), Some("store byte 5"));
     }
 }

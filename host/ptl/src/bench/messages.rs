@@ -3,12 +3,13 @@
 
 use super::data::Labels;
 use crate::random::Random;
+use limits::{ACTORS, ACTOR_MAX, MESSAGE_FRONT, MESSAGE_HEAD, NUMBER_SIZE, WINDOW};
 use ptl::{dots_to_bytes, Dot};
 
 /// The other controllers; the one that takes messages in is actor 1.
-const ACTORS: std::ops::RangeInclusive<u8> = 2..=16;
-/// How many places an add may come late; the window has 64.
-const LATEST: usize = 48;
+const OTHERS: std::ops::RangeInclusive<u8> = 2..=ACTOR_MAX;
+/// How many places an add may come late: not so many that it is out of the window.
+const LATEST: usize = WINDOW as usize * 3 / 4;
 
 /// So many messages of a set.
 pub fn messages(random: &mut Random, set: Labels, name: &[u8], number: usize) -> Vec<Vec<u8>> {
@@ -39,9 +40,9 @@ pub fn messages(random: &mut Random, set: Labels, name: &[u8], number: usize) ->
 
 /// At least so many dots of all actors in the order of their arrival: mixed, each a little late.
 fn arrivals(random: &mut Random, number: usize) -> Vec<Dot> {
-    let each = number / ACTORS.count() + 1;
+    let each = number / OTHERS.count() + 1;
     let mut late = Vec::new();
-    for actor in ACTORS {
+    for actor in OTHERS {
         for counter in 1..=each {
             let dot = Dot::from((actor, counter as u64));
             late.push((counter + random.below(LATEST), random.next(), dot));
@@ -80,7 +81,7 @@ fn end(mut message: Vec<u8>, context: &[Dot]) -> Vec<u8> {
 
 /// An add far above all that was seen of its actor.
 fn gap(random: &mut Random, set: Labels, name: &[u8]) -> Vec<u8> {
-    let actor = random.between(2, 16) as u8;
+    let actor = random.between(2, ACTORS) as u8;
     let counter = 1_000_000 + random.below(1_000) as u64;
     add(name, &set.label(random), Dot::from((actor, counter)), &[])
 }
@@ -91,7 +92,7 @@ fn other_set(random: &mut Random, set: Labels, name: &[u8]) -> Vec<u8> {
     if let Some(last) = other.last_mut() {
         *last ^= 1;
     }
-    let actor = random.between(2, 16) as u8;
+    let actor = random.between(2, ACTORS) as u8;
     add(&other, &set.label(random), Dot::from((actor, 1)), &[])
 }
 
@@ -102,10 +103,10 @@ fn garbage(random: &mut Random, mut message: Vec<u8>) -> Vec<u8> {
         0 => message.truncate(random.below(length)),
         1 => message.push(random.byte()),
         2 => message[random.below(3)] ^= 0x20,
-        3 => message[4] = 2,
-        4 => message[7] = 0,
+        3 => message[MESSAGE_FRONT - 1] = 2,
+        4 => message[MESSAGE_HEAD] = 0,
         _ => {
-            let counter = length - 9..length - 1;
+            let counter = length - 1 - NUMBER_SIZE..length - 1;
             message[counter].fill(0);
         }
     }

@@ -5,6 +5,7 @@ use super::stats::Summary;
 use super::Stopped;
 use crate::compare::Engines;
 use crate::engine::Engine;
+use crate::script::Rack;
 use std::time::Instant;
 
 /// Something to time.
@@ -62,6 +63,13 @@ fn timed<W: Workload>(engine: &dyn Engine, workload: &W) -> (f64, W::Buffers) {
     let start = Instant::now();
     workload.run(engine, &mut buffers);
     (start.elapsed().as_secs_f64(), buffers)
+}
+
+/// The first byte in which the controllers of the two sides differ, in words.
+pub fn differing_byte(product: &Rack, other: &Rack) -> Option<String> {
+    let states = [product.state.block().as_slice(), other.state.block()];
+    first_difference("state byte", states)
+        .or_else(|| first_difference("store byte", [&product.store, &other.store]))
 }
 
 /// The first place in which the bytes of the two sides differ, in words.

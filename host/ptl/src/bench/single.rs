@@ -1,18 +1,19 @@
 //! One call at a time: on stores of five sizes, with labels of two lengths.
 
-use super::pairs::{first_difference, pairs, Workload};
+use super::pairs::{differing_byte, first_difference, pairs, Workload};
 use super::starts::{start, Start, CONTEXT};
 use super::table::Row;
 use super::{floor, Plan, Stopped};
 use crate::compare::Engines;
 use crate::engine::Engine;
-use crate::script::{run, Command, Rack, Reply};
-use ptl::{dots_to_bytes, Dot, MESSAGE_MAX};
+use crate::script::{Command, Rack, Reply, Worded};
+use limits::{LABEL_MAX, MESSAGE_MAX, STORE_MAX};
+use ptl::{dots_to_bytes, Dot};
 
 /// Used bytes of the store, or a few less.
-pub const SIZES: [usize; 5] = [0, 1 << 10, 4 << 10, 16 << 10, 64 << 10];
+pub const SIZES: [usize; 5] = [0, 1 << 10, 4 << 10, 16 << 10, STORE_MAX];
 /// Bytes of a label.
-pub const LABELS: [usize; 2] = [2, 32];
+pub const LABELS: [usize; 2] = [2, LABEL_MAX];
 /// The calls.
 pub const CALLS: [Call; 5] = [
     Call::Add,
@@ -86,7 +87,7 @@ impl Workload for Single {
 
     fn run(&self, engine: &dyn Engine, buffers: &mut Vec<Buffers>) {
         for Buffers { rack, out, reply } in buffers {
-            *reply = run(engine, rack, &self.command, out).unwrap_or(Reply::Obeyed);
+            *reply = engine.run(rack, &self.command, out);
         }
     }
 
@@ -98,23 +99,18 @@ impl Workload for Single {
                 let (product, other) = (product.reply, other.reply);
                 return Some(format!("{what}: product {product:?}, baseline {other:?}"));
             }
-            if product.reply.answer() != Some(0) {
+            if product.reply.answer() != 0 {
                 return Some(format!("{what}: not accepted, {:?}", product.reply));
             }
-            let bytes = differing_byte(product, other);
+            let bytes = differing_byte(&product.rack, &other.rack);
+            let bytes =
+                bytes.or_else(|| first_difference("output byte", [&product.out, &other.out]));
             if bytes.is_some() {
                 return bytes.map(|bytes| format!("{what}: {bytes}"));
             }
         }
         None
     }
-}
-
-fn differing_byte(product: &Buffers, other: &Buffers) -> Option<String> {
-    let (one, two) = (&product.rack, &other.rack);
-    first_difference("state byte", [one.state.block(), two.state.block()])
-        .or_else(|| first_difference("store byte", [&one.store, &two.store]))
-        .or_else(|| first_difference("output byte", [&product.out, &other.out]))
 }
 
 /// Measures one call on one size of store with labels of one length.
@@ -132,7 +128,7 @@ pub fn measure(
     let buffers = Buffers {
         out: vec![0xA5; command.out()],
         rack: start.rack,
-        reply: Reply::Obeyed,
+        reply: Reply::Answered(u8::MAX),
     };
     let single = Single {
         command,

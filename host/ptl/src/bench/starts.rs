@@ -3,7 +3,8 @@
 use super::data::letters;
 use crate::random::Random;
 use crate::script::Rack;
-use ptl::{write_key, Actor, Dot, Key, Label, SetName, State, STORE_MAX};
+use limits::{label_key_size, ACTORS, ACTOR_MAX, STORE_MAX};
+use ptl::{write_key, Actor, Dot, Key, Label, SetName, State};
 use std::collections::BTreeSet;
 
 const NAME: &str = "R1";
@@ -22,11 +23,11 @@ pub struct Start {
 /// one more.
 pub fn start(label: usize, size: usize) -> Start {
     let mut random = Random::new(label as u64);
-    let length = NAME.len() + label + 15;
+    let length = label_key_size(NAME.len(), label);
     let number = (size / length).min(STORE_MAX / length - 1);
     let mut keys = BTreeSet::new();
     for index in 0..number {
-        let dot = Dot::from(((index % 16) as u8 + 1, (index / 16) as u64 + 1));
+        let dot = Dot::from(((index % ACTORS) as u8 + 1, (index / ACTORS) as u64 + 1));
         keys.insert((label_of(&mut random, label), dot));
     }
     let keys: Vec<(Vec<u8>, Dot)> = keys.into_iter().collect();
@@ -51,8 +52,8 @@ fn state(keys: &[(Vec<u8>, Dot)], used: usize) -> State {
     let mut state = State::zero();
     state.set_actor(Actor(1));
     state.set_name(NAME.as_bytes());
-    for actor in 1..=16 {
-        state.set_base(Actor(actor), keys.len() as u64 / 16 + 1);
+    for actor in 1..=ACTOR_MAX {
+        state.set_base(Actor(actor), (keys.len() / ACTORS) as u64 + 1);
     }
     let removed = removed(keys);
     for (slot, dot) in removed.iter().enumerate() {

@@ -3,6 +3,7 @@
 use super::intake::Answers;
 use super::stats::Summary;
 use super::Plan;
+use limits::ACTORS;
 use std::io::{self, Write};
 
 /// One line of a table: what was timed, with names or labels of so many bytes.
@@ -46,7 +47,11 @@ pub fn head(plan: Plan, core: Option<usize>, report: &mut dyn Write) -> io::Resu
 
 pub fn intake_head(plan: Plan, report: &mut dyn Write) -> io::Result<()> {
     let number = plan.messages;
-    writeln!(report, "\nTaking in {number} messages of 15 actors, in ms")?;
+    let others = ACTORS - 1;
+    writeln!(
+        report,
+        "\nTaking in {number} messages of {others} actors, in ms"
+    )?;
     writeln!(report, "labels      name     used {TIMES}   answers")
 }
 

@@ -6,8 +6,9 @@ use super::stats::{quantile, Quartiles, Summary};
 use super::table::{per_byte, Row};
 use super::{bench, Plan};
 use crate::compare::Engines;
-use crate::engine::{Baseline, Fault, Faulty, Product};
+use crate::engine::{Baseline, Fault, Faulty, Product, Second};
 use crate::random::Random;
+use limits::{LABEL_MAX, NAME_MAX};
 use std::collections::BTreeSet;
 
 /// As little as there can be.
@@ -79,10 +80,14 @@ fn labels_and_names_keep_their_rules() {
     for set in SETS {
         let labels: BTreeSet<Vec<u8>> = (0..500).map(|_| set.label(&mut random)).collect();
         assert!(labels.len() > 300, "{set:?}");
-        let keeps = |label: &Vec<u8>| (1..=32).contains(&label.len()) && !label.contains(&0);
+        let keeps = |label: &Vec<u8>| (1..=LABEL_MAX).contains(&label.len()) && !label.contains(&0);
         assert!(labels.iter().all(keeps), "{set:?}");
     }
-    assert_eq!(NAMES.map(<[u8]>::len), [2, 16]);
+    let deep = Labels::Deep.label(&mut random);
+    assert_eq!(
+        (deep.len(), NAMES.map(<[u8]>::len)),
+        (LABEL_MAX, [2, NAME_MAX])
+    );
 }
 
 #[test]
@@ -125,7 +130,7 @@ fn a_difference_is_found() {
         (Fault::ListingRunsOn, "difference: list: output byte "),
     ];
     for (fault, what) in faults {
-        let (passed, report) = said([&Faulty(fault), &Baseline]);
+        let (passed, report) = said([&Faulty::new(&Second, fault), &Baseline]);
         assert!(!passed && report.contains(what), "{report}");
         assert!(!report.contains("were equal"), "{report}");
     }

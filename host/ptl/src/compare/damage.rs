@@ -6,8 +6,13 @@ use super::random::Random;
 use super::starts::label_key;
 use super::trial::Act;
 use super::{messages, pools};
-use crate::script::{Command, Poke, Rack};
-use ptl::{Actor, Counter, Dot, State, STATE_SIZE, TOMBSTONE_SLOTS};
+use crate::script::{Poke, Rack, Tool};
+use limits::{
+    ACTOR_MAX, DOT_SIZE, NAME_MAX, NUMBER_SIZE, ROW_SIZE, STATE_ACTOR_AT, STATE_CLOCK_AT,
+    STATE_COUNT_AT, STATE_NAME_AT, STATE_SIZE, STATE_TOMBSTONE_AT, STATE_USED_AT,
+    TOMBSTONE_DOTS_MAX, WINDOW,
+};
+use ptl::{Actor, Counter, Dot, State};
 
 /// Steps that damage a controller, or might, and steps that undo them.
 pub struct Damage {
@@ -32,8 +37,8 @@ impl Damage {
         let undo = pokes.iter().rev().flat_map(|poke| undo(rack, poke));
         let undo = undo.collect();
         Damage {
-            undo: commands(undo),
-            acts: commands(pokes),
+            undo: tools(undo),
+            acts: tools(pokes),
         }
     }
 
@@ -49,9 +54,9 @@ impl Damage {
     }
 }
 
-fn commands(pokes: Vec<Poke>) -> Vec<Act> {
-    let commands = pokes.into_iter().map(Command::Poke);
-    commands.map(Act::Command).collect()
+fn tools(pokes: Vec<Poke>) -> Vec<Act> {
+    let tools = pokes.into_iter().map(|poke| Tool::Poke { poke });
+    tools.map(Act::Tool).collect()
 }
 
 /// Pokes that put back what this one changes.
@@ -87,23 +92,28 @@ fn flipped_bit(random: &mut Random, state: &State) -> Vec<Poke> {
     let mut next = state.clone();
     // Half of them in the fields before the tombstone.
     let at = match random.chance(50) {
-        true => random.below(281),
+        true => random.below(STATE_TOMBSTONE_AT),
         false => random.below(STATE_SIZE),
     };
     next.block_mut()[at] ^= 1 << random.below(8);
     match at {
-        0 => vec![Poke::Actor(next.actor().0)],
-        1..=24 => whole_name(&next),
-        25..=280 => {
-            let actor = ((at - 25) / 16 + 1) as u8;
-            match (at - 25) % 16 {
-                0..=7 => vec![Poke::Base(actor, next.base(Actor(actor)))],
-                _ => vec![Poke::Window(actor, next.window(Actor(actor)))],
-            }
+        STATE_ACTOR_AT => vec![Poke::Actor(next.actor().0)],
+        STATE_NAME_AT..STATE_CLOCK_AT => whole_name(&next),
+        STATE_CLOCK_AT..STATE_TOMBSTONE_AT => vec![row_poke(&next, at - STATE_CLOCK_AT)],
+        STATE_TOMBSTONE_AT..STATE_COUNT_AT => {
+            vec![slot_poke(&next, (at - STATE_TOMBSTONE_AT) / DOT_SIZE)]
         }
-        281..=1432 => vec![slot_poke(&next, (at - 281) / 9)],
-        1433..=1440 => vec![Poke::Count(next.count())],
+        STATE_COUNT_AT..STATE_USED_AT => vec![Poke::Count(next.count())],
         _ => vec![Poke::Used(next.used())],
+    }
+}
+
+/// The base or window that this byte of the clock is in.
+fn row_poke(state: &State, at: usize) -> Poke {
+    let actor = (at / ROW_SIZE + 1) as u8;
+    match at % ROW_SIZE < NUMBER_SIZE {
+        true => Poke::Base(actor, state.base(Actor(actor))),
+        false => Poke::Window(actor, state.window(Actor(actor))),
     }
 }
 
@@ -119,16 +129,16 @@ fn size(random: &mut Random, state: &State) -> Poke {
 /// A row with another base, or with a window that names what it must not.
 fn row(random: &mut Random, state: &State) -> Poke {
     let actor = match random.chance(40) {
-        true => state.actor().0.clamp(1, 16),
+        true => state.actor().0.clamp(1, ACTOR_MAX),
         false => dots::actor(random, state).0,
     };
     let (base, window) = (state.base(Actor(actor)), state.window(Actor(actor)));
     match random.below(7) {
         0 => Poke::Base(actor, pools::number_near(random, base)),
-        1 => Poke::Base(actor, u64::MAX - random.below(66) as u64),
+        1 => Poke::Base(actor, u64::MAX - random.below(WINDOW as usize + 2) as u64),
         2 | 3 => Poke::Window(actor, window | last_event(random, base)),
         4 => Poke::Window(actor, window | 1),
-        5 => Poke::Window(actor, window ^ (1 << random.below(64))),
+        5 => Poke::Window(actor, window ^ (1 << random.below(WINDOW as usize))),
         _ => Poke::Window(actor, pools::number(random)),
     }
 }
@@ -137,7 +147,7 @@ fn row(random: &mut Random, state: &State) -> Poke {
 fn last_event(random: &mut Random, base: u64) -> u64 {
     let left = u64::MAX - base;
     let bit = left.saturating_sub(random.below(2) as u64);
-    1 << bit.min(63)
+    1 << bit.min(WINDOW - 1)
 }
 
 /// A slot of the tombstone, used or not, changed; or two of them exchanged.
@@ -145,7 +155,7 @@ fn slots(random: &mut Random, state: &State) -> Vec<Poke> {
     let count = state.tombstone().len();
     let slot = match random.chance(70) {
         true => random.below(count),
-        false => random.below(TOMBSTONE_SLOTS),
+        false => random.below(TOMBSTONE_DOTS_MAX),
     };
     let mut dot = state.slot(slot).unwrap_or(Dot::from((1, 1)));
     match random.below(5) {
@@ -169,12 +179,12 @@ fn name_or_actor(random: &mut Random, state: &State) -> Vec<Poke> {
         0 => vec![Poke::Actor(pools::any_actor(random))],
         1 => {
             let mut name = pools::any_name(random);
-            name.truncate(16);
+            name.truncate(NAME_MAX);
             vec![Poke::Name(name)]
         }
         _ => {
             let mut bytes = state.name_room().to_vec();
-            bytes[random.below(16)] = random.byte();
+            bytes[random.below(NAME_MAX)] = random.byte();
             vec![Poke::Name(bytes), Poke::NameLength(state.name_length())]
         }
     }

@@ -4,27 +4,44 @@
 use super::pools;
 use super::random::Random;
 use crate::script::Rack;
+use limits::{ACTOR_MAX, CONTEXT_DOTS_MAX, KEY_END, KEY_FRONT, KEY_MIDDLE, WINDOW};
 use ptl::{dots_to_bytes, Actor, Counter, Dot, State};
 
 /// How far above a base an event may lie, and its neighbours.
-const EDGES: [u64; 10] = [1, 2, 3, 62, 63, 64, 65, 66, 128, 129];
+const EDGES: [u64; 10] = [
+    1,
+    2,
+    3,
+    WINDOW - 2,
+    WINDOW - 1,
+    WINDOW,
+    WINDOW + 1,
+    WINDOW + 2,
+    2 * WINDOW,
+    2 * WINDOW + 1,
+];
 
 /// The keys of the used part, as far as they have a label key's form.
 pub fn keys(rack: &Rack) -> Vec<&[u8]> {
-    let front = rack.state.name().len() + 4;
+    let front = label_at(rack.state.name().len());
     let mut keys = Vec::new();
     let mut rest = &rack.store[..rack.used()];
     while let Some(label) = rest
         .get(front..)
         .and_then(|rest| rest.iter().position(|b| *b == 0))
     {
-        let Some((key, after)) = rest.split_at_checked(front + label + 11) else {
+        let Some((key, after)) = rest.split_at_checked(front + label + KEY_END) else {
             break;
         };
         keys.push(key);
         rest = after;
     }
     keys
+}
+
+/// Where the label begins in a label key of a set whose name has this length.
+fn label_at(name: usize) -> usize {
+    KEY_FRONT + name + KEY_MIDDLE
 }
 
 /// The dot of a label key.
@@ -39,13 +56,13 @@ pub fn dot_of_key(key: &[u8]) -> Option<Dot> {
 
 /// The label of a label key of a set whose name has this length.
 pub fn label_of_key(key: &[u8], name: usize) -> &[u8] {
-    let end = key.len().saturating_sub(11);
-    key.get(name + 4..end).unwrap_or_default()
+    let end = key.len().saturating_sub(KEY_END);
+    key.get(label_at(name)..end).unwrap_or_default()
 }
 
 /// An actor, likely one with a row that is not zero.
 pub fn actor(random: &mut Random, state: &State) -> Actor {
-    let known = (1..=16).map(Actor);
+    let known = (1..=ACTOR_MAX).map(Actor);
     let known: Vec<Actor> = known.filter(|a| state.base(*a) > 0).collect();
     match random.any(&known) {
         Some(actor) if random.chance(85) => actor,
@@ -56,7 +73,7 @@ pub fn actor(random: &mut Random, state: &State) -> Actor {
 /// A dot that the clock sees, if the actor has any.
 pub fn seen(random: &mut Random, state: &State, actor: Actor) -> Dot {
     let (base, window) = (state.base(actor), state.window(actor));
-    let above: Vec<u64> = (0..64).filter(|bit| window >> bit & 1 == 1).collect();
+    let above: Vec<u64> = (0..WINDOW).filter(|bit| window >> bit & 1 == 1).collect();
     let counter = match random.any(&above) {
         Some(bit) if base == 0 || random.chance(30) => base.saturating_add(1 + bit),
         _ if random.chance(60) => base - base.min(random.below(140) as u64),
@@ -117,9 +134,9 @@ fn size(random: &mut Random, may_be_wild: bool) -> usize {
         0..=5 => 0,
         6..=11 => 1,
         12..=15 => random.between(2, 5),
-        16 | 17 => random.between(6, 16),
-        18 => 16,
-        _ if may_be_wild => random.between(15, 19),
+        16 | 17 => random.between(6, CONTEXT_DOTS_MAX),
+        18 => CONTEXT_DOTS_MAX,
+        _ if may_be_wild => random.between(CONTEXT_DOTS_MAX - 1, CONTEXT_DOTS_MAX + 3),
         _ => 2,
     }
 }

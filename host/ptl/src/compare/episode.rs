@@ -62,15 +62,13 @@ impl<'a> Episode<'a> {
         choice(self.random, self.trial.rack(at))
     }
 
-    /// Takes one step and writes it down.
-    pub fn act(&mut self, rack: usize, act: Act) -> Result<Reply, What> {
+    /// Takes one step and writes it down. The reply, if a call was made.
+    pub fn act(&mut self, rack: usize, act: Act) -> Result<Option<Reply>, What> {
         let step = Step { rack, act };
         let held = self.trial.held();
         let reply = self.trial.step(&step);
-        if let (Ok(reply), Act::Command(command)) = (&reply, &step.act) {
-            if let Some(answer) = reply.answer() {
-                self.tally.count(command, answer);
-            }
+        if let (Ok(Some(reply)), Act::Command(command)) = (&reply, &step.act) {
+            self.tally.count(command, reply.answer());
         }
         self.tally.held(self.trial.held() - held);
         self.script.push(step);
@@ -78,9 +76,9 @@ impl<'a> Episode<'a> {
     }
 
     /// Gives a command, with another store lent before it now and then.
-    pub fn give(&mut self, at: usize, command: Command) -> Result<Reply, What> {
+    pub fn give(&mut self, at: usize, command: Command) -> Result<Option<Reply>, What> {
         if let Some(buffer) = self.choose(at, |random, rack| moves::lend(random, rack, &command)) {
-            self.act(at, Act::Command(buffer))?;
+            self.act(at, Act::Tool(buffer))?;
         }
         self.act(at, Act::Command(command))
     }

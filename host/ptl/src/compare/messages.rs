@@ -3,6 +3,7 @@
 use super::random::Random;
 use super::{dots, pools};
 use crate::script::Rack;
+use limits::{DOT_SIZE, KEY_END, MESSAGE_HEAD};
 use ptl::{dots_to_bytes, Dot};
 
 const MARK: &[u8] = b"PTL\x00\x01";
@@ -13,7 +14,7 @@ pub fn add(name: &[u8], label: &[u8], dot: Dot, context: &[u8]) -> Vec<u8> {
     put_counted(&mut bytes, name, 1);
     put_counted(&mut bytes, label, 1);
     bytes.extend(dot.to_bytes());
-    put_counted(&mut bytes, context, 9);
+    put_counted(&mut bytes, context, DOT_SIZE);
     bytes
 }
 
@@ -21,7 +22,7 @@ pub fn add(name: &[u8], label: &[u8], dot: Dot, context: &[u8]) -> Vec<u8> {
 pub fn remove(name: &[u8], context: &[u8]) -> Vec<u8> {
     let mut bytes = [MARK, b"r"].concat();
     put_counted(&mut bytes, name, 1);
-    put_counted(&mut bytes, context, 9);
+    put_counted(&mut bytes, context, DOT_SIZE);
     bytes
 }
 
@@ -33,12 +34,12 @@ fn put_counted(bytes: &mut Vec<u8>, pieces: &[u8], size: usize) {
 
 /// The length of the message of an own add.
 pub fn add_length(name: usize, label: usize, context: usize) -> usize {
-    remove_length(name, context) + 1 + label + 9
+    remove_length(name, context) + 1 + label + DOT_SIZE
 }
 
 /// The length of the message of an own remove.
 pub fn remove_length(name: usize, context: usize) -> usize {
-    MARK.len() + 2 + name + 1 + context
+    MESSAGE_HEAD + name + 1 + context
 }
 
 /// A message for this controller, most likely one that it could accept.
@@ -89,12 +90,12 @@ fn at_edges(random: &mut Random, rack: &Rack, name: &[u8]) -> Vec<u8> {
 /// Cuts, lengthens or changes bytes, as a radio might, or with an eye to the format.
 pub fn garble(random: &mut Random, bytes: &mut Vec<u8>) {
     let at = match random.chance(25) {
-        true => bytes.len().saturating_sub(1 + random.below(11)),
+        true => bytes.len().saturating_sub(1 + random.below(KEY_END)),
         false => random.below(bytes.len()),
     };
     match random.below(11) {
         0 => bytes.truncate(at),
-        1 => bytes.truncate(random.below(8)),
+        1 => bytes.truncate(random.below(MESSAGE_HEAD + 1)),
         2 => bytes.push(random.byte()),
         3 if !bytes.is_empty() => bytes[at] ^= 1 << random.below(8),
         4 if !bytes.is_empty() => bytes[at] = random.byte() >> random.below(8),
@@ -106,7 +107,7 @@ pub fn garble(random: &mut Random, bytes: &mut Vec<u8>) {
         8 => *bytes = (0..random.below(30)).map(|_| random.byte()).collect(),
         // The mark, the version, the kind and the first length.
         _ => {
-            let at = random.below(7);
+            let at = random.below(MESSAGE_HEAD);
             if let Some(byte) = bytes.get_mut(at) {
                 *byte = random.pick(&[0, 1, 2, b'P', b'a', b'r', b'i', 255]);
             }

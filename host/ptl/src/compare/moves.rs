@@ -3,9 +3,8 @@
 use super::random::Random;
 use super::starts::store_length;
 use super::{dots, messages, pools};
-use crate::engine::KeyToWrite;
-use crate::script::{Command, Rack};
-use ptl::STORE_MAX;
+use crate::script::{Command, Rack, Tool};
+use limits::{label_key_size, DOT_SIZE, KEY_FRONT, LINE_FIXED, MESSAGE_HEAD, STORE_MAX};
 use std::collections::BTreeMap;
 
 /// A call of any kind.
@@ -72,7 +71,7 @@ fn listing_length(rack: &Rack) -> usize {
     for key in dots::keys(rack) {
         if dots::dot_of_key(key).is_some_and(|dot| removed.binary_search(&dot).is_err()) {
             let label = dots::label_of_key(key, name);
-            *lengths.entry(label).or_insert(label.len() + 3) += 9;
+            *lengths.entry(label).or_insert(label.len() + LINE_FIXED) += DOT_SIZE;
         }
     }
     lengths.values().sum()
@@ -85,7 +84,7 @@ pub fn formats(random: &mut Random, rack: &Rack) -> Command {
             let key = key_to_write(random);
             let need = key_bytes(&key).len();
             let out = pools::out(random, need);
-            Command::Key { key, out }
+            key.command(out)
         }
         1 => Command::ReadKey {
             bytes: key_to_read(random),
@@ -93,6 +92,28 @@ pub fn formats(random: &mut Random, rack: &Rack) -> Command {
         _ => Command::ReadMessage {
             bytes: messages::made(random, rack, true),
         },
+    }
+}
+
+/// The arguments of writing a key.
+struct KeyToWrite {
+    kind: u8,
+    name: Vec<u8>,
+    label: Vec<u8>,
+    actor: u8,
+    counter: u64,
+}
+
+impl KeyToWrite {
+    fn command(self, out: usize) -> Command {
+        Command::Key {
+            kind: self.kind,
+            name: self.name,
+            label: self.label,
+            actor: self.actor,
+            counter: self.counter,
+            out,
+        }
     }
 }
 
@@ -118,7 +139,7 @@ fn key_to_write(random: &mut Random) -> KeyToWrite {
 fn key_to_read(random: &mut Random) -> Vec<u8> {
     let key = key_to_write(random);
     let mut bytes = key_bytes(&key);
-    let kind_at = 3 + key.name.len();
+    let kind_at = KEY_FRONT + key.name.len() + 1;
     match random.below(10) {
         0 | 1 => messages::garble(random, &mut bytes),
         2 | 3 => {
@@ -156,23 +177,25 @@ fn key_bytes(key: &KeyToWrite) -> Vec<u8> {
 
 /// Another store before a call, now and then: exact for the key that the call may store, one
 /// byte short of it, of the longest length or past it.
-pub fn lend(random: &mut Random, rack: &Rack, command: &Command) -> Option<Command> {
+pub fn lend(random: &mut Random, rack: &Rack, command: &Command) -> Option<Tool> {
     let (used, name) = (rack.used(), rack.state.name().len());
     let fill = random.byte();
     let too_long = rack.store.len() > STORE_MAX;
     let label = match command {
         Command::Add { label, .. } => Some(label.len()),
-        Command::Take { message } => message.get(7 + name).map(|length| usize::from(*length)),
+        Command::Take { message } => message
+            .get(MESSAGE_HEAD + name)
+            .map(|length| usize::from(*length)),
         _ => None,
     };
     let length = match (random.below(100), label) {
-        (0..=3, Some(label)) => used + name + label + 15,
-        (4..=6, Some(label)) => used + name + label + 14,
+        (0..=3, Some(label)) => used + label_key_size(name, label),
+        (4..=6, Some(label)) => used + label_key_size(name, label) - 1,
         (7, _) => STORE_MAX,
         (8, _) => STORE_MAX + 1 + random.below(2) * random.below(4000),
         (9..=35, _) => store_length(random, used, name),
         _ if too_long => store_length(random, used, name),
         _ => return None,
     };
-    Some(Command::Buffer { length, fill })
+    Some(Tool::Buffer { length, fill })
 }

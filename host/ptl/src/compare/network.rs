@@ -4,7 +4,8 @@
 use super::episode::Episode;
 use super::trial::{Act, What};
 use super::{messages, moves, pools};
-use crate::script::{Command, Reply};
+use crate::script::{Command, Reply, Tool, RACKS};
+use limits::ACTORS;
 
 /// The messages sent so far, and how the controllers behave.
 struct Air {
@@ -18,7 +19,7 @@ impl Episode<'_> {
     /// and sets may be mistaken, and states damaged.
     pub fn network(&mut self, wild: bool) -> Result<(), What> {
         let racks = match self.random.chance(4) {
-            true => 16,
+            true => RACKS,
             false => self.random.between(2, 5),
         };
         let mut air = Air {
@@ -39,17 +40,17 @@ impl Episode<'_> {
 
     fn set_all_up(&mut self, air: &Air) -> Result<(), What> {
         let common = pools::name(self.random);
-        let first = self.random.below(16);
+        let first = self.random.below(ACTORS);
         for at in 0..air.racks {
             let mistaken = air.wild && self.random.chance(20);
             let (actor, name) = match mistaken {
                 true => (pools::any_actor(self.random), pools::any_name(self.random)),
-                false => (((first + at) % 16 + 1) as u8, common.clone()),
+                false => (((first + at) % ACTORS + 1) as u8, common.clone()),
             };
             let length = 200 + self.random.below(1500);
             let fill = self.random.byte();
             self.act(at, Act::Command(Command::Setup { actor, name }))?;
-            self.act(at, Act::Command(Command::Buffer { length, fill }))?;
+            self.act(at, Act::Tool(Tool::Buffer { length, fill }))?;
         }
         Ok(())
     }
@@ -84,7 +85,7 @@ impl Episode<'_> {
 
     /// An own call; the message it wrote goes on the air.
     fn send(&mut self, at: usize, command: Command, air: &mut Air) -> Result<(), What> {
-        if let Reply::Wrote(wrote) = self.give(at, command)? {
+        if let Some(Reply::Wrote(wrote)) = self.give(at, command)? {
             if wrote.answer == 0 {
                 let message = self.out()[..wrote.written].to_vec();
                 air.sent.push(message);

@@ -1,6 +1,9 @@
 //! Values that the rules draw a line at, and some on either side.
 
 use super::random::Random;
+use limits::{
+    ACTORS, ACTOR_MAX, DOT_SIZE, LABEL_MAX, NAME_MAX, STORE_MAX, TOMBSTONE_DOTS_MAX, WINDOW,
+};
 
 const LABELS: [&[u8]; 9] = [
     b"B7",
@@ -10,13 +13,32 @@ const LABELS: [&[u8]; 9] = [
     b"A",
     b"\x01",
     b"\xff\xff",
-    &[b'x'; 31],
-    &[0xff; 32],
+    &[b'x'; LABEL_MAX - 1],
+    &[0xff; LABEL_MAX],
 ];
-const BAD_LABELS: [&[u8]; 6] = [b"", &[b'x'; 33], b"\0", b"B\x007", b"B7\0", &[b'y'; 255]];
+const BAD_LABELS: [&[u8]; 6] = [
+    b"",
+    &[b'x'; LABEL_MAX + 1],
+    b"\0",
+    b"B\x007",
+    b"B7\0",
+    &[b'y'; 255],
+];
 
-const NAMES: [&[u8]; 5] = [b"R1", b"R", b"R12", b"\xff", &[b'n'; 16]];
-const BAD_NAMES: [&[u8]; 6] = [b"", &[b'n'; 17], b"\0", b"R\0", b"\x00R", &[b'm'; 255]];
+const NAMES: [&[u8]; 5] = [b"R1", b"R", b"R12", b"\xff", &[b'n'; NAME_MAX]];
+const BAD_NAMES: [&[u8]; 6] = [
+    b"",
+    &[b'n'; NAME_MAX + 1],
+    b"\0",
+    b"R\0",
+    b"\x00R",
+    &[b'm'; 255],
+];
+
+const NAME: u64 = NAME_MAX as u64;
+const LABEL: u64 = LABEL_MAX as u64;
+const TOMBSTONE: u64 = TOMBSTONE_DOTS_MAX as u64;
+const STORE: u64 = STORE_MAX as u64;
 
 /// Numbers at which a width, a size or a rule ends.
 const NUMBERS: [u64; 32] = [
@@ -24,32 +46,32 @@ const NUMBERS: [u64; 32] = [
     1,
     2,
     3,
-    15,
-    16,
-    17,
-    31,
-    32,
-    33,
-    63,
-    64,
-    65,
-    66,
-    127,
-    128,
-    129,
-    130,
+    NAME - 1,
+    NAME,
+    NAME + 1,
+    LABEL - 1,
+    LABEL,
+    LABEL + 1,
+    WINDOW - 1,
+    WINDOW,
+    WINDOW + 1,
+    WINDOW + 2,
+    TOMBSTONE - 1,
+    TOMBSTONE,
+    TOMBSTONE + 1,
+    TOMBSTONE + 2,
     255,
     256,
-    65_535,
-    65_536,
-    65_537,
+    STORE - 1,
+    STORE,
+    STORE + 1,
     u32::MAX as u64,
     1 << 32,
     i64::MAX as u64,
     1 << 63,
-    u64::MAX / 9 + 1,
-    u64::MAX - 64,
-    u64::MAX - 63,
+    u64::MAX / DOT_SIZE as u64 + 1,
+    u64::MAX - WINDOW,
+    u64::MAX - WINDOW + 1,
     u64::MAX - 1,
     u64::MAX,
 ];
@@ -59,7 +81,7 @@ pub fn label(random: &mut Random) -> Vec<u8> {
     if random.chance(80) {
         return random.pick(&LABELS).to_vec();
     }
-    let length = random.between(1, 32);
+    let length = random.between(1, LABEL_MAX);
     (0..length).map(|_| random.pick(b"B7a\x01")).collect()
 }
 
@@ -90,15 +112,15 @@ pub fn any_name(random: &mut Random) -> Vec<u8> {
 /// An actor that keeps its rule.
 pub fn actor(random: &mut Random) -> u8 {
     match random.chance(40) {
-        true => random.pick(&[1, 2, 3, 16]),
-        false => random.between(1, 16) as u8,
+        true => random.pick(&[1, 2, 3, ACTOR_MAX]),
+        false => random.between(1, ACTORS) as u8,
     }
 }
 
 /// An actor that may break its rule.
 pub fn any_actor(random: &mut Random) -> u8 {
     match random.chance(10) {
-        true => random.pick(&[0, 17, 18, 255]),
+        true => random.pick(&[0, ACTOR_MAX + 1, ACTOR_MAX + 2, 255]),
         false => actor(random),
     }
 }
@@ -107,7 +129,7 @@ pub fn any_actor(random: &mut Random) -> u8 {
 pub fn number(random: &mut Random) -> u64 {
     match random.chance(80) {
         true => random.pick(&NUMBERS),
-        false => random.next() >> random.below(64),
+        false => random.next() >> random.below(u64::BITS as usize),
     }
 }
 
@@ -116,8 +138,10 @@ pub fn number_near(random: &mut Random, near: u64) -> u64 {
     match random.below(6) {
         0 => near.wrapping_add(1),
         1 => near.wrapping_sub(1),
-        2 => near.wrapping_add(random.next() % 130).wrapping_sub(65),
-        3 | 4 => near ^ 1 << random.below(64),
+        2 => near
+            .wrapping_add(random.next() % (2 * WINDOW + 2))
+            .wrapping_sub(WINDOW + 1),
+        3 | 4 => near ^ 1 << random.below(u64::BITS as usize),
         _ => number(random),
     }
 }

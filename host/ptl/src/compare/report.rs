@@ -4,8 +4,8 @@ use super::shrink::{shown, shrink, Shown};
 use super::tally::Tally;
 use super::trial::{Act, Step, Trial, What, FILL};
 use super::Engines;
-use crate::engine::{Engine, KeyToWrite};
-use crate::script::{command_line, hex_text, reply_line, run, Command, Poke, Rack, Reply};
+use crate::engine::Engine;
+use crate::script::{line_to, Command, Poke, Rack, Tool, Worded};
 use std::io::{self, IsTerminal, Write};
 use std::time::{Duration, Instant};
 
@@ -83,53 +83,29 @@ pub fn difference(
 
 /// The lines of a step.
 fn step_lines(step: &Step) -> Vec<String> {
-    let line = |command: &Command| {
-        let line = command_line(step.rack, command);
-        line.unwrap_or_else(|| bare_line(step.rack, command))
-    };
+    let poke = |poke| line(step.rack, &Tool::Poke { poke });
     match &step.act {
-        Act::Command(command) => vec![line(command)],
+        Act::Command(command) => vec![line(step.rack, command)],
+        Act::Tool(tool) => vec![line(step.rack, tool)],
         Act::Keys(keys) => {
             let bytes = keys.concat();
             let used = Poke::Used(bytes.len() as u64);
             let bytes = bytes.into_iter().enumerate();
             let pokes = bytes.map(|(at, byte)| Poke::Byte(at, byte)).chain([used]);
-            pokes.map(|poke| line(&Command::Poke(poke))).collect()
+            pokes.map(poke).collect()
         }
         Act::Dots(dots) => {
             let count = Poke::Count(dots.len() as u64);
             let slots = dots.iter().enumerate();
             let pokes = slots.map(|(slot, dot)| Poke::Dot(slot, dot.actor.0, dot.counter.0));
-            let pokes = pokes.chain([count]);
-            pokes.map(|poke| line(&Command::Poke(poke))).collect()
+            pokes.chain([count]).map(poke).collect()
         }
     }
 }
 
-/// A command for which the console has no line, as a comment with its arguments in hexadecimal.
-fn bare_line(rack: usize, command: &Command) -> String {
-    let arguments = match command {
-        Command::Add {
-            label,
-            context,
-            out,
-        } => format!("{} {} {out}", hex_text(label), hex_text(context)),
-        Command::Remove { context, out } => format!("{} {out}", hex_text(context)),
-        Command::Key { key, out } => format!("{} {out}", bare_key(key)),
-        _ => String::new(),
-    };
-    format!("# @{rack} {} in hexadecimal: {arguments}", command.word())
-}
-
-fn bare_key(key: &KeyToWrite) -> String {
-    format!(
-        "{:02x} {} {} {:02x} {:016x}",
-        key.kind,
-        hex_text(&key.name),
-        hex_text(&key.label),
-        key.actor,
-        key.counter
-    )
+/// A line; as a comment if the console does not read it.
+fn line(rack: usize, asked: &impl Worded) -> String {
+    line_to(rack, asked).unwrap_or_else(|bare| format!("# with bytes in hexadecimal: {bare}"))
 }
 
 /// What either side says to the last line, and where their states, stores and outputs differ.
@@ -151,8 +127,8 @@ fn said(engines: Engines, script: &[Step], report: &mut dyn Write) -> io::Result
     writeln!(report, "{:<10} {}", "product:", product.line)?;
     writeln!(report, "{name:<10} {}", other.line)?;
     if product.rack.state != other.rack.state {
-        writeln!(report, "{:<10} {}", "product:", product.state_line())?;
-        writeln!(report, "{name:<10} {}", other.state_line())?;
+        writeln!(report, "{:<10} {}", "product:", product.rack.state_line())?;
+        writeln!(report, "{name:<10} {}", other.rack.state_line())?;
     }
     let of = |what| (what, engines[1].name());
     differing_byte(of("state"), product.block(), other.block(), report)?;
@@ -170,15 +146,8 @@ struct Said {
 impl Said {
     fn of(engine: &dyn Engine, mut rack: Rack, command: &Command) -> Said {
         let mut out = vec![FILL; command.out()];
-        let line = match run(engine, &mut rack, command, &mut out) {
-            Ok(reply) => reply_line(command, &reply, &rack, &out),
-            Err(why) => format!("? {why}"),
-        };
+        let line = engine.run(&mut rack, command, &mut out).line(command, &out);
         Said { line, rack, out }
-    }
-
-    fn state_line(&self) -> String {
-        reply_line(&Command::State, &Reply::Obeyed, &self.rack, &[])
     }
 
     fn block(&self) -> &[u8] {

@@ -4,6 +4,7 @@
 use super::trial::{Act, Step, Trial, What};
 use super::Engines;
 use crate::script::Command;
+use limits::DOT_SIZE;
 use std::time::{Duration, Instant};
 
 /// How long to go on trying.
@@ -115,7 +116,7 @@ fn smaller(act: &Act) -> Vec<Act> {
             let less = |context| Command::Remove { context, out: *out };
             fewer_dots(context).map(less).map(Act::Command).collect()
         }
-        Act::Command(_) => Vec::new(),
+        Act::Command(_) | Act::Tool(_) => Vec::new(),
     }
 }
 
@@ -135,6 +136,8 @@ fn fewer<T: Clone>(items: &[T]) -> Vec<Vec<T>> {
 }
 
 fn fewer_dots(context: &[u8]) -> impl Iterator<Item = Vec<u8>> + '_ {
-    let dots = context.len() / 9;
-    (0..dots).map(|dot| [&context[..9 * dot], &context[9 * dot + 9..]].concat())
+    let dots = context.len() / DOT_SIZE;
+    let without =
+        move |dot| [&context[..DOT_SIZE * dot], &context[DOT_SIZE * (dot + 1)..]].concat();
+    (0..dots).map(without)
 }

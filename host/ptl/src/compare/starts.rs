@@ -4,8 +4,9 @@
 use super::random::Random;
 use super::trial::Act;
 use super::{dots, pools};
-use crate::script::{Command, Poke};
-use ptl::{Actor, Dot, State, STORE_MAX};
+use crate::script::{Command, Poke, Tool};
+use limits::{label_key_size, ACTOR_MAX, CONTEXT_DOTS_MAX, STORE_MAX, TOMBSTONE_DOTS_MAX, WINDOW};
+use ptl::{Actor, Dot, State};
 use std::collections::BTreeSet;
 
 /// Steps that lead to a sound state with so many keys or a few less.
@@ -19,13 +20,13 @@ pub fn start(random: &mut Random, keys: usize) -> Vec<Act> {
     };
     let mut acts = vec![Act::Command(setup)];
     for poke in rows(random, &mut state) {
-        acts.push(Act::Command(Command::Poke(poke)));
+        acts.push(Act::Tool(Tool::Poke { poke }));
     }
     let removed = tombstone(random, &state);
     let keys = label_keys(random, &state, &removed, &name, keys);
     let length = store_length(random, keys.concat().len(), name.len());
     let fill = random.byte();
-    acts.push(Act::Command(Command::Buffer { length, fill }));
+    acts.push(Act::Tool(Tool::Buffer { length, fill }));
     if !keys.is_empty() {
         acts.push(Act::Keys(keys));
     }
@@ -72,15 +73,15 @@ fn window(random: &mut Random, base: u64) -> u64 {
     let window = match random.below(7) {
         0 => 0,
         1 => !0,
-        2 => 1 << 63,
+        2 => 1 << (WINDOW - 1),
         3 => 2,
-        4 => !0 >> random.below(64),
+        4 => !0 >> random.below(WINDOW as usize),
         5 => random.next() & random.next(),
-        _ => !(1 << random.below(64)),
+        _ => !(1 << random.below(WINDOW as usize)),
     };
     let events_left = u64::MAX - base;
     let room = match events_left {
-        0..=63 => (1 << events_left) - 1,
+        0..WINDOW => (1 << events_left) - 1,
         _ => !0,
     };
     window & room & !1
@@ -88,13 +89,16 @@ fn window(random: &mut Random, base: u64) -> u64 {
 
 /// A tombstone of dots that the clock sees; often nearly full.
 fn tombstone(random: &mut Random, state: &State) -> Vec<Dot> {
+    let full = TOMBSTONE_DOTS_MAX;
+    // A context fills it from here.
+    let nearly = full - CONTEXT_DOTS_MAX;
     let most = match random.below(8) {
         0..=2 => 0,
         3 => random.below(6),
-        4 => random.between(110, 114),
-        5 => 127,
-        6 => 128,
-        _ => random.between(120, 128),
+        4 => random.between(nearly - 2, nearly + 2),
+        5 => full - 1,
+        6 => full,
+        _ => random.between(full - 8, full),
     };
     let actors = known_actors(state);
     let mut dots = BTreeSet::new();
@@ -108,7 +112,7 @@ fn tombstone(random: &mut Random, state: &State) -> Vec<Dot> {
 
 /// The actors of whom the clock has seen anything.
 fn known_actors(state: &State) -> Vec<Actor> {
-    let all = (1..=16).map(Actor);
+    let all = (1..=ACTOR_MAX).map(Actor);
     all.filter(|a| (state.base(*a), state.window(*a)) != (0, 0))
         .collect()
 }
@@ -152,7 +156,7 @@ pub fn label_key(name: &[u8], label: &[u8], dot: Dot) -> Vec<u8> {
 
 /// The length of a lent store with so many bytes used: full, or with room for some keys.
 pub fn store_length(random: &mut Random, used: usize, name: usize) -> usize {
-    let key = name + 15;
+    let key = label_key_size(name, 0);
     let room = match random.below(24) {
         0 => 0,
         1 => key + random.below(4),

@@ -1,28 +1,10 @@
 //! How often each answer of each call was met.
 
-use crate::script::Command;
-
-const ANSWERS: usize = 14;
+use crate::script::{Command, Worded};
+use limits::ANSWERS;
 
 /// Each call by its word, with the answers it can give.
-const CALLS: [(&str, &[u8]); 10] = [
-    ("setup", &[0, 5]),
-    ("add", &[0, 1, 5, 6, 8, 9, 10, 11, 12, 13]),
-    ("remove", &[0, 1, 6, 8, 10, 11, 13]),
-    ("take", &[0, 1, 2, 3, 4, 5, 6, 7, 8, 10, 11, 12]),
-    ("list", &[0, 1, 13]),
-    ("lookup", &[0, 1, 5]),
-    ("compact", &[0, 1]),
-    ("key", &[0, 4, 5, 6, 13]),
-    ("readkey", &[0, 4]),
-    ("readmessage", &[0, 2, 3, 4, 5, 6]),
-];
-
-/// Whether the call of this command can give this answer.
-pub fn can_give(command: &Command, answer: u8) -> bool {
-    let call = CALLS.iter().find(|call| call.0 == command.word());
-    call.is_some_and(|call| call.1.contains(&answer))
-}
+const CALLS: &[(&str, &[u8])] = Command::TABLE;
 
 /// The counts of a run, and how many calls it is to have.
 pub struct Tally {
@@ -45,9 +27,7 @@ impl Tally {
     /// Counts one call.
     pub fn count(&mut self, command: &Command, answer: u8) {
         self.done += 1;
-        let row = CALLS.iter().position(|call| call.0 == command.word());
-        let row = row.and_then(|row| self.met.get_mut(row));
-        if let Some(count) = row.and_then(|row| row.get_mut(usize::from(answer))) {
+        if let Some(count) = self.met[command.row()].get_mut(usize::from(answer)) {
             *count += 1;
         }
     }

@@ -8,7 +8,8 @@ use super::trial::Act;
 use super::{compare, verdict, Engines, FULL_RUN};
 use crate::console::console;
 use crate::engine::{Baseline, Engine, Fault, Faulty, Second};
-use crate::script::{command_line, parse, Command};
+use crate::script::{line_to, parse, Command, Line};
+use limits::TOMBSTONE_DOTS_MAX;
 
 /// The report of a run that must find a difference.
 fn found(engines: Engines) -> String {
@@ -43,13 +44,14 @@ fn said(engine: &dyn Engine, script: &[&str]) -> String {
 /// A fault is found, and its script is no longer than this, but for lines that write the bytes of
 /// a key, and shows it in the console.
 fn shows(fault: Fault, what: &str, most: usize) {
-    let report = found([&Faulty(fault), &Second]);
+    let faulty = Faulty::new(&Second, fault);
+    let report = found([&faulty, &Second]);
     assert!(report.contains(&format!("script: {what}")), "{report}");
     let script = script_of(&report);
     let lines = script.iter().filter(|line| !line.contains("poke byte "));
     assert!((1..=most).contains(&lines.count()), "{report}");
     if what != "outputs differ" {
-        let (faulty, sound) = (said(&Faulty(fault), &script), said(&Second, &script));
+        let (faulty, sound) = (said(&faulty, &script), said(&Second, &script));
         assert!(faulty != sound, "{report}");
         assert!(!faulty.contains("? "), "{report}");
     }
@@ -63,7 +65,7 @@ fn a_fault_in_the_answer_is_shown() {
 
 #[test]
 fn the_report_names_what_the_product_is_compared_with() {
-    let faulty = Faulty(Fault::DeadLabelListed);
+    let faulty = Faulty::new(&Second, Fault::DeadLabelListed);
     for (other, line) in [
         (&Second as &dyn Engine, "\nreference: lookup "),
         (&Baseline, "\nbaseline:  lookup "),
@@ -76,7 +78,7 @@ fn the_report_names_what_the_product_is_compared_with() {
 
 #[test]
 fn a_fault_in_the_state_is_shown() {
-    shows(Fault::ShiftBy64, "states differ", 10);
+    shows(Fault::WholeShiftLost, "states differ", 10);
 }
 
 #[test]
@@ -92,13 +94,14 @@ fn a_fault_in_the_output_is_shown() {
 #[test]
 fn a_fault_at_a_boundary_is_shown() {
     shows(Fault::StoreOneShort, "answers or counts differ", 10);
-    // 127 slots, their number, a base, a set-up and the remove.
-    shows(Fault::TombstoneOneShort, "answers or counts differ", 140);
+    // All slots but one, their number, a base, a set-up and the remove.
+    let most = TOMBSTONE_DOTS_MAX + 12;
+    shows(Fault::TombstoneOneShort, "answers or counts differ", most);
 }
 
 #[test]
 fn a_fault_in_a_format_is_shown() {
-    let report = found([&Faulty(Fault::LeftOverRead), &Second]);
+    let report = found([&Faulty::new(&Second, Fault::LeftOverRead), &Second]);
     let script = script_of(&report);
     assert_eq!(script.len(), 1, "{report}");
     assert!(script[0].starts_with("readmessage "), "{report}");
@@ -106,7 +109,7 @@ fn a_fault_in_a_format_is_shown() {
 
 #[test]
 fn a_fault_that_both_sides_have_breaks_the_rule() {
-    let faulty = Faulty(Fault::DeadLabelListed);
+    let faulty = Faulty::new(&Second, Fault::DeadLabelListed);
     let report = found([&faulty, &faulty]);
     assert!(
         report.contains("not what the rule of demand 3 says"),
@@ -116,7 +119,7 @@ fn a_fault_that_both_sides_have_breaks_the_rule() {
 
 #[test]
 fn an_answer_outside_the_table_is_shown() {
-    let faulty = Faulty(Fault::OtherAnswer);
+    let faulty = Faulty::new(&Second, Fault::OtherAnswer);
     let report = found([&faulty, &faulty]);
     assert!(
         report.contains("the call cannot give this answer"),
@@ -179,15 +182,17 @@ fn lines_are_read_as_they_are_written() {
         let mut episode = Episode::new([&Second, &Second], &mut random, &mut tally);
         assert_eq!(episode.play(), Ok(()));
         for step in episode.into_script() {
-            let Act::Command(command) = step.act else {
-                continue;
+            let (line, asked) = match step.act {
+                Act::Command(command) => (line_to(step.rack, &command), Line::Command(command)),
+                Act::Tool(tool) => (line_to(step.rack, &tool), Line::Tool(tool)),
+                _ => continue,
             };
-            match command_line(step.rack, &command) {
-                Some(line) => {
-                    assert_eq!(parse(line.as_bytes()), Ok((step.rack, command)), "{line}");
+            match line {
+                Ok(line) => {
+                    assert_eq!(parse(line.as_bytes()), Ok((step.rack, asked)), "{line}");
                     lines += 1;
                 }
-                None => bare += 1,
+                Err(_) => bare += 1,
             }
         }
     }

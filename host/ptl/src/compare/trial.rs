@@ -1,9 +1,8 @@
 //! A script of commands, run on two engines side by side and compared after each one.
 
-use super::honest::Honest;
-use super::tally::can_give;
+use super::honest::{leaves, Honest};
 use super::Engines;
-use crate::script::{run, Command, Rack, Reply, RACKS};
+use crate::script::{Command, Rack, Reply, Tool, Worded, RACKS};
 use ptl::Dot;
 
 /// What lent outputs hold before a call.
@@ -19,11 +18,12 @@ pub struct Step {
     pub act: Act,
 }
 
-/// A command; or keys put at the store's front as its used part; or dots put in the first slots of
+/// A command; a tool; or keys put at the store's front as its used part; or dots put in the first slots of
 /// the tombstone, with their number.
 #[derive(Clone, PartialEq, Eq, Debug)]
 pub enum Act {
     Command(Command),
+    Tool(Tool),
     Keys(Vec<Vec<u8>>),
     Dots(Vec<Dot>),
 }
@@ -79,19 +79,16 @@ impl<'a> Trial<'a> {
         })
     }
 
-    /// Takes a step on both sides and compares all that it left.
-    pub fn step(&mut self, step: &Step) -> Result<Reply, What> {
+    /// Takes a step on both sides and compares all that it left. The reply, if it was a call.
+    pub fn step(&mut self, step: &Step) -> Result<Option<Reply>, What> {
+        let pair = self.pair(step.rack);
         match &step.act {
-            Act::Command(command) => self.command(step.rack, command),
-            Act::Keys(keys) => {
-                self.pair(step.rack).put_keys(keys);
-                Ok(Reply::Obeyed)
-            }
-            Act::Dots(dots) => {
-                self.pair(step.rack).put_dots(dots);
-                Ok(Reply::Obeyed)
-            }
+            Act::Command(command) => return self.command(step.rack, command).map(Some),
+            Act::Tool(tool) => pair.obey(tool),
+            Act::Keys(keys) => pair.put_keys(keys),
+            Act::Dots(dots) => pair.put_dots(dots),
         }
+        Ok(None)
     }
 
     fn command(&mut self, at: usize, command: &Command) -> Result<Reply, What> {
@@ -102,7 +99,7 @@ impl<'a> Trial<'a> {
         if self.outs[0] != self.outs[1] {
             return Err("outputs differ");
         }
-        if reply.answer().is_some_and(|n| !can_give(command, n)) {
+        if !command.can_give(reply.answer()) {
             return Err("the call cannot give this answer");
         }
         let out = std::mem::take(&mut self.outs[0]);
@@ -112,7 +109,7 @@ impl<'a> Trial<'a> {
         Ok(reply)
     }
 
-    /// Runs a command on both sides. A poke outside the store is no difference: it does nothing.
+    /// Runs a command on both sides.
     fn replies(&mut self, at: usize, command: &Command) -> [Reply; 2] {
         let mut outs = std::mem::take(&mut self.outs);
         let engines = self.engines;
@@ -121,7 +118,7 @@ impl<'a> Trial<'a> {
             let out = &mut outs[side];
             out.clear();
             out.resize(command.out(), FILL);
-            run(engines[side], &mut pair.sides[side], command, out).unwrap_or(Reply::Obeyed)
+            engines[side].run(&mut pair.sides[side], command, out)
         });
         self.outs = outs;
         replies
@@ -129,6 +126,16 @@ impl<'a> Trial<'a> {
 }
 
 impl Pair {
+    /// Does the same to both sides. A poke outside the store does nothing.
+    fn obey(&mut self, tool: &Tool) {
+        for side in &mut self.sides {
+            let _ = side.obey(tool);
+        }
+        if !leaves(tool, self.sides[0].state.used()) {
+            self.honest = None;
+        }
+    }
+
     /// Puts keys at the front of both stores, as far as they fit, and sets the used length.
     fn put_keys(&mut self, keys: &[Vec<u8>]) {
         let bytes = keys.concat();
@@ -167,14 +174,14 @@ impl Pair {
     fn hold_to_rule(&mut self, command: &Command, reply: &Reply, out: &[u8]) -> Result<bool, What> {
         let rack = &self.sides[0];
         if let Command::Setup { actor, name } = command {
-            let accepted = reply.answer() == Some(0);
+            let accepted = reply.answer() == 0;
             self.honest = accepted.then(|| Honest::new(*actor, name));
             return Ok(false);
         }
         let Some(honest) = &mut self.honest else {
             return Ok(false);
         };
-        if !honest.goes_on(command, reply, rack) {
+        if !honest.goes_on(command, reply) {
             self.honest = None;
             return Ok(false);
         }

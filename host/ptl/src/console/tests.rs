@@ -2,7 +2,8 @@
 
 use super::console;
 use crate::engine::{Engine, Product, Second};
-use crate::script::LINE_MAX;
+use crate::script::{LINE_MAX, RACKS};
+use limits::{ACTOR_MAX, NAME_MAX};
 
 const SCRIPTS: [(&str, &str); 4] = [
     ("base", include_str!("../../tests/console/base.script")),
@@ -153,6 +154,28 @@ fn a_comment_too_has_a_longest_line() {
     };
     assert_eq!(both(&comment(LINE_MAX)), "");
     assert!(both(&comment(LINE_MAX + 1)).starts_with("? "));
+}
+
+#[test]
+fn reasons_that_name_a_limit_name_the_right_one() {
+    let last = RACKS - 1;
+    assert_eq!(
+        both(format!("@{RACKS} state").as_bytes()),
+        format!("? controllers are 0 to {last}\n")
+    );
+    let name = "n".repeat(NAME_MAX + 1);
+    assert_eq!(
+        both(format!("poke name {name}").as_bytes()),
+        format!("? name over {NAME_MAX} bytes\n")
+    );
+    assert_eq!(
+        both(format!("poke base {} 1", ACTOR_MAX + 1).as_bytes()),
+        format!("? rows are 1 to {ACTOR_MAX}\n")
+    );
+    assert_eq!(
+        both(&long_line(LINE_MAX + 1)),
+        format!("? line over {LINE_MAX} bytes\n")
+    );
 }
 
 #[test]

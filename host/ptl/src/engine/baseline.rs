@@ -1,8 +1,8 @@
 //! The baseline, the calls in ordinary Rust: it works on the product's own blocks.
 
-use super::{Engine, KeyToWrite};
+use super::Engine;
+use crate::script::{Command, Rack, Reply};
 use ptl::calls::{KeyRead, Listed, Looked, MessageRead, Span, Wrote};
-use ptl::State;
 
 pub struct Baseline;
 
@@ -11,88 +11,39 @@ impl Engine for Baseline {
         "baseline"
     }
 
-    fn set_up(&self, actor: u8, name: &[u8], state: &mut State) -> u8 {
-        baseline::set_up(actor, name, state.block_mut())
-    }
-
-    fn own_add(
-        &self,
-        state: &mut State,
-        store: &mut [u8],
-        label: &[u8],
-        context: &[u8],
-        out: &mut [u8],
-    ) -> Wrote {
-        wrote(baseline::own_add(
-            state.block_mut(),
-            store,
-            label,
-            context,
-            out,
-        ))
-    }
-
-    fn own_remove(&self, state: &mut State, store: &[u8], context: &[u8], out: &mut [u8]) -> Wrote {
-        wrote(baseline::own_remove(state.block_mut(), store, context, out))
-    }
-
-    fn take_in(&self, state: &mut State, store: &mut [u8], message: &[u8]) -> u8 {
-        baseline::take_in(state.block_mut(), store, message)
-    }
-
-    fn list(&self, state: &State, store: &[u8], out: &mut [u8]) -> Listed {
-        let listed = baseline::list(state.block(), store, out);
-        Listed {
-            answer: listed.answer,
-            written: listed.written,
-            labels: listed.labels,
+    fn run(&self, rack: &mut Rack, command: &Command, out: &mut [u8]) -> Reply {
+        let (block, store) = (rack.state.block_mut(), &mut rack.store);
+        match command {
+            Command::Setup { actor, name } => {
+                Reply::Answered(baseline::set_up(*actor, name, block))
+            }
+            Command::Add { label, context, .. } => {
+                wrote(baseline::own_add(block, store, label, context, out))
+            }
+            Command::Remove { context, .. } => {
+                wrote(baseline::own_remove(block, store, context, out))
+            }
+            Command::Take { message } => Reply::Answered(self.take_in(rack, message)),
+            Command::List { .. } => listed(baseline::list(block, store, out)),
+            Command::Lookup { label } => looked(baseline::lookup(block, store, label)),
+            Command::Compact => Reply::Answered(baseline::compact(block, store)),
+            Command::Key {
+                kind,
+                name,
+                label,
+                actor,
+                counter,
+                ..
+            } => wrote(baseline::write_key(
+                *kind, name, label, *actor, *counter, out,
+            )),
+            Command::ReadKey { bytes } => key(baseline::read_key(bytes)),
+            Command::ReadMessage { bytes } => message(baseline::read_message(bytes)),
         }
     }
 
-    fn lookup(&self, state: &State, store: &[u8], label: &[u8]) -> Looked {
-        let looked = baseline::lookup(state.block(), store, label);
-        Looked {
-            answer: looked.answer,
-            listed: looked.listed,
-            found: span(looked.at, looked.len),
-        }
-    }
-
-    fn compact(&self, state: &mut State, store: &mut [u8]) -> u8 {
-        baseline::compact(state.block_mut(), store)
-    }
-
-    fn write_key(&self, key: &KeyToWrite, out: &mut [u8]) -> Wrote {
-        let (name, label) = (&key.name, &key.label);
-        let (actor, counter) = (key.actor, key.counter);
-        wrote(baseline::write_key(
-            key.kind, name, label, actor, counter, out,
-        ))
-    }
-
-    fn read_key(&self, bytes: &[u8]) -> KeyRead {
-        let read = baseline::read_key(bytes);
-        KeyRead {
-            answer: read.answer,
-            kind: read.kind,
-            name: span(read.name_at, read.name_len),
-            label: span(read.label_at, read.label_len),
-            actor: read.actor,
-            counter: read.counter,
-        }
-    }
-
-    fn read_message(&self, bytes: &[u8]) -> MessageRead {
-        let read = baseline::read_message(bytes);
-        MessageRead {
-            answer: read.answer,
-            kind: read.kind,
-            name: span(read.name_at, read.name_len),
-            label: span(read.label_at, read.label_len),
-            actor: read.actor,
-            counter: read.counter,
-            context: span(read.context_at, read.context_len),
-        }
+    fn take_in(&self, rack: &mut Rack, message: &[u8]) -> u8 {
+        baseline::take_in(rack.state.block_mut(), &mut rack.store, message)
     }
 }
 
@@ -100,9 +51,48 @@ fn span(at: usize, len: usize) -> Span {
     Span { at, len }
 }
 
-fn wrote(wrote: baseline::Wrote) -> Wrote {
-    Wrote {
+fn wrote(wrote: baseline::Wrote) -> Reply {
+    Reply::Wrote(Wrote {
         answer: wrote.answer,
         written: wrote.written,
-    }
+    })
+}
+
+fn listed(listed: baseline::Listed) -> Reply {
+    Reply::Listed(Listed {
+        answer: listed.answer,
+        written: listed.written,
+        labels: listed.labels,
+    })
+}
+
+fn looked(looked: baseline::Looked) -> Reply {
+    Reply::Looked(Looked {
+        answer: looked.answer,
+        listed: looked.listed,
+        found: span(looked.at, looked.len),
+    })
+}
+
+fn key(read: baseline::KeyRead) -> Reply {
+    Reply::Key(KeyRead {
+        answer: read.answer,
+        kind: read.kind,
+        name: span(read.name_at, read.name_len),
+        label: span(read.label_at, read.label_len),
+        actor: read.actor,
+        counter: read.counter,
+    })
+}
+
+fn message(read: baseline::MessageRead) -> Reply {
+    Reply::Message(MessageRead {
+        answer: read.answer,
+        kind: read.kind,
+        name: span(read.name_at, read.name_len),
+        label: span(read.label_at, read.label_len),
+        actor: read.actor,
+        counter: read.counter,
+        context: span(read.context_at, read.context_len),
+    })
 }

@@ -1,13 +1,16 @@
-//! Engines with one fault each, for the tests of what must find it.
+//! An engine with one fault put in, for the tests of what must find it.
 
-use super::{Engine, KeyToWrite, Second};
-use ptl::calls::{KeyRead, Listed, Looked, MessageRead, Wrote};
-use ptl::{Actor, State};
+use super::Engine;
+use crate::script::{Command, Rack, Reply};
+use limits::{ACTOR_MAX, TOMBSTONE_DOTS_MAX, WINDOW};
+use ptl::calls::Wrote;
+use ptl::{Actor, Answer, Dot, State};
+use std::cell::Cell;
 
 /// What an engine does wrong.
 #[derive(Clone, Copy, PartialEq, Eq, Debug)]
 pub enum Fault {
-    /// The 128th dot of a tombstone is refused.
+    /// The last dot that a tombstone has room for is refused.
     TombstoneOneShort,
     /// A key that fills the store exactly is refused.
     StoreOneShort,
@@ -17,120 +20,213 @@ pub enum Fault {
     ListingRunsOn,
     /// A label all of whose dots are removed is looked up as listed.
     DeadLabelListed,
-    /// A shift of the window by 64 leaves it as it was.
-    ShiftBy64,
+    /// A shift of the window by its whole width leaves it as it was.
+    WholeShiftLost,
     /// A message with bytes left over is read.
     LeftOverRead,
     /// Compaction answers 13 where it should answer 1.
     OtherAnswer,
+    /// Bytes that are no message are accepted.
+    NoiseAccepted,
+    /// A message with a context is never accepted.
+    RemovesRefused,
+    /// A message that is too far ahead is refused, but not without a trace.
+    RefusalChanges,
+    /// Now and then a removed dot falls out of the tombstone.
+    RemovedDotDropped,
+    /// Now and then a message is accepted, and nothing is kept of it.
+    MessageForgotten,
+    /// Now and then a remove is taken in that no call brought, so that the rule misses it.
+    MessageUntold,
+    /// Now and then compaction drops a key that is not removed.
+    LiveKeyDropped,
+    /// Now and then an own add answers 8, as if the box had lost its memory.
+    MemoryLost,
 }
 
-/// The reference with one fault.
-pub struct Faulty(pub Fault);
+/// A sound engine with one fault put in.
+pub struct Faulty<'a> {
+    sound: &'a dyn Engine,
+    fault: Fault,
+    /// How often a fault that comes now and then could have come.
+    chances: Cell<u64>,
+}
 
-impl Faulty {
+impl<'a> Faulty<'a> {
+    pub fn new(sound: &'a dyn Engine, fault: Fault) -> Faulty<'a> {
+        let chances = Cell::new(0);
+        Faulty {
+            sound,
+            fault,
+            chances,
+        }
+    }
+
     fn has(&self, fault: Fault) -> bool {
-        self.0 == fault
-    }
-}
-
-impl Engine for Faulty {
-    fn name(&self) -> &'static str {
-        "faulty"
+        self.fault == fault
     }
 
-    fn set_up(&self, actor: u8, name: &[u8], state: &mut State) -> u8 {
-        Second.set_up(actor, name, state)
+    /// True at every so many chances, if it is this fault.
+    fn strikes(&self, fault: Fault, every: u64) -> bool {
+        self.has(fault) && {
+            self.chances.set(self.chances.get() + 1);
+            self.chances.get().is_multiple_of(every)
+        }
     }
 
-    fn own_add(
-        &self,
-        state: &mut State,
-        store: &mut [u8],
-        label: &[u8],
-        context: &[u8],
-        out: &mut [u8],
-    ) -> Wrote {
-        let shorter = store.len().saturating_sub(1);
-        let lent = match self.has(Fault::StoreOneShort) && state.used() <= shorter as u64 {
-            true => &mut store[..shorter],
-            false => store,
+    fn own_add(&self, rack: &mut Rack, command: &Command, out: &mut [u8]) -> Reply {
+        if self.strikes(Fault::MemoryLost, 200) {
+            return refused(Answer::OwnAhead);
+        }
+        let full = rack.state.used() >= rack.store.len() as u64;
+        let last = match self.has(Fault::StoreOneShort) && !full {
+            true => rack.store.pop(),
+            false => None,
         };
-        Second.own_add(state, lent, label, context, out)
+        let reply = self.sound.run(rack, command, out);
+        rack.store.extend(last);
+        reply
     }
 
-    fn own_remove(&self, state: &mut State, store: &[u8], context: &[u8], out: &mut [u8]) -> Wrote {
-        let (before, kept) = (state.clone(), out.to_vec());
-        let wrote = Second.own_remove(state, store, context, out);
-        let filled = before.count() < 128 && state.count() == 128;
+    fn own_remove(&self, rack: &mut Rack, command: &Command, out: &mut [u8]) -> Reply {
+        let (before, kept) = (rack.state.clone(), out.to_vec());
+        let reply = self.sound.run(rack, command, out);
+        let full = TOMBSTONE_DOTS_MAX as u64;
+        let filled = before.count() < full && rack.state.count() == full;
         if !(filled && self.has(Fault::TombstoneOneShort)) {
-            return wrote;
+            return reply;
         }
-        *state = before;
+        rack.state = before;
         out.copy_from_slice(&kept);
-        Wrote {
-            answer: 11,
-            written: 0,
-        }
+        refused(Answer::TombstoneFull)
     }
 
-    fn take_in(&self, state: &mut State, store: &mut [u8], message: &[u8]) -> u8 {
-        let before = state.clone();
-        let answer = Second.take_in(state, store, message);
-        for actor in (1..=16).map(Actor) {
-            let moved = state.base(actor) - before.base(actor);
-            if moved == 64 && self.has(Fault::ShiftBy64) {
-                state.set_window(actor, before.window(actor));
-            }
-        }
-        answer
-    }
-
-    fn list(&self, state: &State, store: &[u8], out: &mut [u8]) -> Listed {
-        let listed = Second.list(state, store, out);
-        if let (true, Some(byte)) = (
-            self.has(Fault::ListingRunsOn) && listed.labels > 0,
-            out.get_mut(listed.written),
-        ) {
-            *byte = 0;
-        }
-        listed
-    }
-
-    fn lookup(&self, state: &State, store: &[u8], label: &[u8]) -> Looked {
-        let mut looked = Second.lookup(state, store, label);
-        looked.listed |= self.has(Fault::DeadLabelListed) && looked.found.len > 0;
-        looked
-    }
-
-    fn compact(&self, state: &mut State, store: &mut [u8]) -> u8 {
-        let before = state.used();
-        let answer = Second.compact(state, store);
+    fn compact(&self, rack: &mut Rack) -> Reply {
+        let before = rack.state.used();
+        let reply = self.sound.run(rack, &Command::Compact, &mut []);
+        let Rack { state, store } = rack;
         let after = state.used();
         if self.has(Fault::FreedByteKept) && after < before {
             store[after as usize] = 2;
         }
-        match answer {
-            1 if self.has(Fault::OtherAnswer) => 13,
+        if self.strikes(Fault::LiveKeyDropped, 10) {
+            let key = [b"\x02\x01", state.name(), b"\x00e"].concat();
+            let used = &store[..after as usize];
+            let last = used.windows(key.len()).rposition(|bytes| bytes == key);
+            state.set_used(last.map_or(after, |last| last as u64));
+        }
+        match Answer::of_number(reply.answer()) {
+            Some(Answer::Damaged) if self.has(Fault::OtherAnswer) => {
+                Reply::Answered(Answer::OutputShort.number())
+            }
+            _ => reply,
+        }
+    }
+
+    /// What is wrong with a reply of a call that changes nothing.
+    fn spoil(&self, reply: &mut Reply, out: &mut [u8]) {
+        match reply {
+            Reply::Listed(listed) if self.has(Fault::ListingRunsOn) && listed.labels > 0 => {
+                if let Some(byte) = out.get_mut(listed.written) {
+                    *byte = 0;
+                }
+            }
+            Reply::Looked(looked) => {
+                looked.listed |= self.has(Fault::DeadLabelListed) && looked.found.len > 0;
+            }
+            _ => (),
+        }
+    }
+
+    fn read_message(&self, rack: &mut Rack, bytes: &[u8]) -> Reply {
+        let read = |rack: &mut Rack, bytes: &[u8]| {
+            let bytes = bytes.to_vec();
+            self.sound
+                .run(rack, &Command::ReadMessage { bytes }, &mut [])
+        };
+        let reply = read(rack, bytes);
+        let left_over = reply.answer() == Answer::BadShape.number();
+        match bytes {
+            [front @ .., _] if self.has(Fault::LeftOverRead) && left_over => read(rack, front),
+            _ => reply,
+        }
+    }
+
+    /// Taking in; the answer.
+    fn taken_in(&self, rack: &mut Rack, command: &Command) -> u8 {
+        let before = rack.clone();
+        let answer = self.sound.run(rack, command, &mut []).answer();
+        match Answer::of_number(answer) {
+            Some(Answer::Done) => self.after_accepting(before, rack),
+            Some(Answer::BadShape) if self.has(Fault::NoiseAccepted) => Answer::Done.number(),
+            Some(Answer::TooFar) if self.has(Fault::RefusalChanges) => {
+                let count = rack.state.count().saturating_sub(1);
+                rack.state.set_count(count);
+                answer
+            }
             _ => answer,
         }
     }
 
-    fn write_key(&self, key: &KeyToWrite, out: &mut [u8]) -> Wrote {
-        Second.write_key(key, out)
+    /// What is wrong after an accepted message. The answer.
+    fn after_accepting(&self, before: Rack, rack: &mut Rack) -> u8 {
+        let state = &mut rack.state;
+        let refused = self.has(Fault::RemovesRefused) && state.count() > before.state.count();
+        if self.has(Fault::WholeShiftLost) {
+            keep_shifted_windows(&before.state, state);
+        }
+        if self.strikes(Fault::RemovedDotDropped, 50) {
+            let last = state.count().saturating_sub(1);
+            state.set_slot(last as usize, Dot::from((0, 0)));
+            state.set_count(last);
+        }
+        if self.strikes(Fault::MessageUntold, 1000) {
+            let remove = b"PTL\x00\x01r\x05RACKS\x01\x01\x00\x00\x00\x00\x00\x00\x00\x01";
+            self.sound.take_in(rack, remove);
+        }
+        if refused || self.strikes(Fault::MessageForgotten, 100) {
+            *rack = before;
+        }
+        match refused {
+            true => Answer::TombstoneFull.number(),
+            false => Answer::Done.number(),
+        }
+    }
+}
+
+/// Puts back the windows that a call has shifted by their whole width.
+fn keep_shifted_windows(before: &State, state: &mut State) {
+    for actor in (1..=ACTOR_MAX).map(Actor) {
+        if state.base(actor) - before.base(actor) == WINDOW {
+            state.set_window(actor, before.window(actor));
+        }
+    }
+}
+
+fn refused(answer: Answer) -> Reply {
+    Reply::Wrote(Wrote {
+        answer: answer.number(),
+        written: 0,
+    })
+}
+
+impl Engine for Faulty<'_> {
+    fn name(&self) -> &'static str {
+        "faulty"
     }
 
-    fn read_key(&self, bytes: &[u8]) -> KeyRead {
-        Second.read_key(bytes)
-    }
-
-    fn read_message(&self, bytes: &[u8]) -> MessageRead {
-        let read = Second.read_message(bytes);
-        match bytes {
-            [front @ .., _] if self.has(Fault::LeftOverRead) && read.answer == 4 => {
-                Second.read_message(front)
+    fn run(&self, rack: &mut Rack, command: &Command, out: &mut [u8]) -> Reply {
+        match command {
+            Command::Add { .. } => self.own_add(rack, command, out),
+            Command::Remove { .. } => self.own_remove(rack, command, out),
+            Command::Take { .. } => Reply::Answered(self.taken_in(rack, command)),
+            Command::Compact => self.compact(rack),
+            Command::ReadMessage { bytes } => self.read_message(rack, bytes),
+            _ => {
+                let mut reply = self.sound.run(rack, command, out);
+                self.spoil(&mut reply, out);
+                reply
             }
-            _ => read,
         }
     }
 }

@@ -1,8 +1,8 @@
 //! The product: the calls of the static library.
 
-use super::{Engine, KeyToWrite};
-use ptl::calls::{self, KeyRead, Listed, Looked, MessageRead, Wrote};
-use ptl::State;
+use super::Engine;
+use crate::script::{Command, Rack, Reply};
+use ptl::calls;
 
 pub struct Product;
 
@@ -11,50 +11,34 @@ impl Engine for Product {
         "product"
     }
 
-    fn set_up(&self, actor: u8, name: &[u8], state: &mut State) -> u8 {
-        calls::set_up(actor, name, state)
+    fn run(&self, rack: &mut Rack, command: &Command, out: &mut [u8]) -> Reply {
+        let Rack { state, store } = rack;
+        match command {
+            Command::Setup { actor, name } => Reply::Answered(calls::set_up(*actor, name, state)),
+            Command::Add { label, context, .. } => {
+                Reply::Wrote(calls::own_add(state, store, label, context, out))
+            }
+            Command::Remove { context, .. } => {
+                Reply::Wrote(calls::own_remove(state, store, context, out))
+            }
+            Command::Take { message } => Reply::Answered(self.take_in(rack, message)),
+            Command::List { .. } => Reply::Listed(calls::list(state, store, out)),
+            Command::Lookup { label } => Reply::Looked(calls::lookup(state, store, label)),
+            Command::Compact => Reply::Answered(calls::compact(state, store)),
+            Command::Key {
+                kind,
+                name,
+                label,
+                actor,
+                counter,
+                ..
+            } => Reply::Wrote(calls::write_key(*kind, name, label, *actor, *counter, out)),
+            Command::ReadKey { bytes } => Reply::Key(calls::read_key(bytes)),
+            Command::ReadMessage { bytes } => Reply::Message(calls::read_message(bytes)),
+        }
     }
 
-    fn own_add(
-        &self,
-        state: &mut State,
-        store: &mut [u8],
-        label: &[u8],
-        context: &[u8],
-        out: &mut [u8],
-    ) -> Wrote {
-        calls::own_add(state, store, label, context, out)
-    }
-
-    fn own_remove(&self, state: &mut State, store: &[u8], context: &[u8], out: &mut [u8]) -> Wrote {
-        calls::own_remove(state, store, context, out)
-    }
-
-    fn take_in(&self, state: &mut State, store: &mut [u8], message: &[u8]) -> u8 {
-        calls::take_in(state, store, message)
-    }
-
-    fn list(&self, state: &State, store: &[u8], out: &mut [u8]) -> Listed {
-        calls::list(state, store, out)
-    }
-
-    fn lookup(&self, state: &State, store: &[u8], label: &[u8]) -> Looked {
-        calls::lookup(state, store, label)
-    }
-
-    fn compact(&self, state: &mut State, store: &mut [u8]) -> u8 {
-        calls::compact(state, store)
-    }
-
-    fn write_key(&self, key: &KeyToWrite, out: &mut [u8]) -> Wrote {
-        calls::write_key(key.kind, &key.name, &key.label, key.actor, key.counter, out)
-    }
-
-    fn read_key(&self, bytes: &[u8]) -> KeyRead {
-        calls::read_key(bytes)
-    }
-
-    fn read_message(&self, bytes: &[u8]) -> MessageRead {
-        calls::read_message(bytes)
+    fn take_in(&self, rack: &mut Rack, message: &[u8]) -> u8 {
+        calls::take_in(&mut rack.state, &mut rack.store, message)
     }
 }

@@ -1,7 +1,10 @@
-//! The fields of a line: NUM, TEXT, HEX and DOTS, each read from its one form or refused.
+//! The fields of a line by their kinds: each is read from its one form or refused, and written in
+//! that form.
 
-use super::Why;
-use ptl::Dot;
+use super::{Why, OUT_MAX};
+use limits::DOT_SIZE;
+use ptl::{dots_of, Dot};
+use std::fmt::Write;
 
 /// The fields of a line, one after the other.
 pub struct Fields<'a> {
@@ -33,38 +36,173 @@ impl<'a> Fields<'a> {
             Some(_) => Err("too many fields"),
         }
     }
+}
 
-    pub fn number(&mut self) -> Result<u64, Why> {
-        number(self.next()?)
-    }
+/// A field in its form; or, for a value that the console has no form for, in hexadecimal.
+pub type Written = Result<String, String>;
 
-    /// A NUM of at most this size.
-    pub fn size(&mut self, most: usize) -> Result<usize, Why> {
-        let number = usize::try_from(self.number()?).unwrap_or(usize::MAX);
-        if number > most {
-            return Err("number too large");
-        }
-        Ok(number)
-    }
+/// A kind of field.
+pub trait Field {
+    type Value;
 
-    pub fn byte(&mut self) -> Result<u8, Why> {
-        byte(self.next()?)
-    }
+    fn read(fields: &mut Fields) -> Result<Self::Value, Why>;
 
-    pub fn text(&mut self) -> Result<Vec<u8>, Why> {
-        text(self.next()?)
-    }
+    fn write(value: &Self::Value) -> Written;
 
-    pub fn hex(&mut self) -> Result<Vec<u8>, Why> {
-        hex(self.next()?)
-    }
-
-    pub fn dots(&mut self) -> Result<Vec<u8>, Why> {
-        dots(self.next()?)
+    /// How many bytes of output must be lent for it.
+    fn lent(_value: &Self::Value) -> usize {
+        0
     }
 }
 
 /// NUM: decimal without leading zeros.
+pub struct Num;
+
+impl Field for Num {
+    type Value = u64;
+
+    fn read(fields: &mut Fields) -> Result<u64, Why> {
+        number(fields.next()?)
+    }
+
+    fn write(number: &u64) -> Written {
+        Ok(number.to_string())
+    }
+}
+
+/// A NUM from 0 to 255.
+pub struct Byte;
+
+impl Field for Byte {
+    type Value = u8;
+
+    fn read(fields: &mut Fields) -> Result<u8, Why> {
+        byte(fields.next()?)
+    }
+
+    fn write(byte: &u8) -> Written {
+        Ok(byte.to_string())
+    }
+}
+
+/// A NUM of at most this size.
+pub struct Size<const MOST: usize>;
+
+impl<const MOST: usize> Field for Size<MOST> {
+    type Value = usize;
+
+    fn read(fields: &mut Fields) -> Result<usize, Why> {
+        let size = usize::try_from(Num::read(fields)?).ok();
+        size.filter(|size| *size <= MOST).ok_or("number too large")
+    }
+
+    fn write(size: &usize) -> Written {
+        Ok(size.to_string())
+    }
+}
+
+/// OUT: the length of the lent output.
+pub struct Out;
+
+impl Field for Out {
+    type Value = usize;
+
+    fn read(fields: &mut Fields) -> Result<usize, Why> {
+        Size::<OUT_MAX>::read(fields)
+    }
+
+    fn write(size: &usize) -> Written {
+        Ok(size.to_string())
+    }
+
+    fn lent(size: &usize) -> usize {
+        *size
+    }
+}
+
+/// TEXT: printing bytes for themselves, `%XX` for any byte, `-` for none.
+pub struct Text;
+
+impl Field for Text {
+    type Value = Vec<u8>;
+
+    fn read(fields: &mut Fields) -> Result<Vec<u8>, Why> {
+        match fields.next()? {
+            b"-" => Ok(Vec::new()),
+            field => bytes_of_text(field),
+        }
+    }
+
+    fn write(bytes: &Vec<u8>) -> Written {
+        Ok(text(bytes))
+    }
+}
+
+/// HEX: pairs of lower-case digits, `-` for no bytes.
+pub struct Hex;
+
+impl Field for Hex {
+    type Value = Vec<u8>;
+
+    fn read(fields: &mut Fields) -> Result<Vec<u8>, Why> {
+        let pairs = match fields.next()? {
+            b"-" => return Ok(Vec::new()),
+            field => field.chunks(2),
+        };
+        let bytes = pairs.map(|pair| pair_of(pair, b'a')).collect::<Option<_>>();
+        bytes.ok_or("not hexadecimal")
+    }
+
+    fn write(bytes: &Vec<u8>) -> Written {
+        Ok(hex(bytes))
+    }
+}
+
+/// DOTS: `actor:counter` joined by commas, `-` for none. In memory nine bytes a dot; other bytes
+/// have no form.
+pub struct Dots;
+
+impl Field for Dots {
+    type Value = Vec<u8>;
+
+    fn read(fields: &mut Fields) -> Result<Vec<u8>, Why> {
+        let pairs = match fields.next()? {
+            b"-" => return Ok(Vec::new()),
+            field => field.split(|byte| *byte == b','),
+        };
+        let dots: Result<Vec<Dot>, Why> = pairs.map(dot).collect();
+        Ok(ptl::dots_to_bytes(&dots?))
+    }
+
+    fn write(bytes: &Vec<u8>) -> Written {
+        match bytes.len().is_multiple_of(DOT_SIZE) {
+            true => Ok(dots(&dots_of(bytes))),
+            false => Err(hex(bytes)),
+        }
+    }
+}
+
+/// TYPE: `c`, `d`, `e` or `z`. In memory any byte; others have no form.
+pub struct KeyType;
+
+impl Field for KeyType {
+    type Value = u8;
+
+    fn read(fields: &mut Fields) -> Result<u8, Why> {
+        match fields.next()? {
+            [kind @ (b'c' | b'd' | b'e' | b'z')] => Ok(*kind),
+            _ => Err("key types are c, d, e and z"),
+        }
+    }
+
+    fn write(kind: &u8) -> Written {
+        match kind {
+            b'c' | b'd' | b'e' | b'z' => Ok(char::from(*kind).to_string()),
+            _ => Err(hex(&[*kind])),
+        }
+    }
+}
+
 pub fn number(field: &[u8]) -> Result<u64, Why> {
     let digits = field.iter().all(u8::is_ascii_digit);
     let leading_zero = field.len() > 1 && field[0] == b'0';
@@ -75,16 +213,18 @@ pub fn number(field: &[u8]) -> Result<u64, Why> {
     text.parse().map_err(|_| "number too large")
 }
 
-/// A NUM from 0 to 255.
-pub fn byte(field: &[u8]) -> Result<u8, Why> {
+fn byte(field: &[u8]) -> Result<u8, Why> {
     u8::try_from(number(field)?).map_err(|_| "number over 255")
 }
 
-/// TEXT: printing bytes for themselves, `%XX` for any byte, `-` for none.
-pub fn text(field: &[u8]) -> Result<Vec<u8>, Why> {
-    if field == b"-" {
-        return Ok(Vec::new());
-    }
+fn dot(field: &[u8]) -> Result<Dot, Why> {
+    let mut parts = field.splitn(2, |byte| *byte == b':');
+    let actor = byte(parts.next().unwrap_or_default())?;
+    let counter = number(parts.next().ok_or("dot without counter")?)?;
+    Ok(Dot::from((actor, counter)))
+}
+
+fn bytes_of_text(field: &[u8]) -> Result<Vec<u8>, Why> {
     let mut bytes = Vec::with_capacity(field.len());
     let mut rest = field;
     while let Some((first, after)) = rest.split_first() {
@@ -100,16 +240,6 @@ pub fn text(field: &[u8]) -> Result<Vec<u8>, Why> {
         }
     }
     Ok(bytes)
-}
-
-/// HEX: pairs of lower-case digits, `-` for no bytes.
-pub fn hex(field: &[u8]) -> Result<Vec<u8>, Why> {
-    if field == b"-" {
-        return Ok(Vec::new());
-    }
-    let pairs = field.chunks(2);
-    let bytes = pairs.map(|pair| pair_of(pair, b'a')).collect::<Option<_>>();
-    bytes.ok_or("not hexadecimal")
 }
 
 /// The byte of two hexadecimal digits, whose letters begin at this `a`.
@@ -128,21 +258,46 @@ fn digit(byte: u8, a: u8) -> Option<u8> {
     }
 }
 
-/// DOTS: `actor:counter` joined by commas, `-` for none. Gives nine bytes a dot.
-pub fn dots(field: &[u8]) -> Result<Vec<u8>, Why> {
-    if field == b"-" {
-        return Ok(Vec::new());
+/// TEXT of bytes.
+pub fn text(bytes: &[u8]) -> String {
+    match bytes {
+        [] => "-".to_string(),
+        [b'-'] => "%2D".to_string(),
+        _ => bytes.iter().map(|byte| text_byte(*byte)).collect(),
     }
-    let mut bytes = Vec::new();
-    for pair in field.split(|byte| *byte == b',') {
-        bytes.extend(dot(pair)?.to_bytes());
-    }
-    Ok(bytes)
 }
 
-fn dot(field: &[u8]) -> Result<Dot, Why> {
-    let mut parts = field.splitn(2, |byte| *byte == b':');
-    let actor = byte(parts.next().unwrap_or_default())?;
-    let counter = number(parts.next().ok_or("dot without counter")?)?;
-    Ok(Dot::from((actor, counter)))
+fn text_byte(byte: u8) -> String {
+    match byte {
+        b'%' => "%25".to_string(),
+        b'!'..=b'~' => char::from(byte).to_string(),
+        _ => format!("%{byte:02X}"),
+    }
+}
+
+/// HEX of bytes.
+pub fn hex(bytes: &[u8]) -> String {
+    if bytes.is_empty() {
+        return "-".to_string();
+    }
+    let mut hex = String::with_capacity(2 * bytes.len());
+    for byte in bytes {
+        let _ = write!(hex, "{byte:02x}");
+    }
+    hex
+}
+
+/// DOTS of dots.
+pub fn dots(dots: &[Dot]) -> String {
+    let pair = |dot: &Dot| format!("{}:{}", dot.actor.0, dot.counter.0);
+    joined(dots.iter().map(pair))
+}
+
+/// Parts joined by commas; `-` if there are none.
+pub fn joined(parts: impl Iterator<Item = String>) -> String {
+    let parts: Vec<String> = parts.collect();
+    match parts.is_empty() {
+        true => "-".to_string(),
+        false => parts.join(","),
+    }
 }

@@ -1,21 +1,26 @@
-//! The console's lines as values: read from text, run on an engine, and written as text again.
+//! The console's lines as values: the table of commands, read from text and written as text
+//! again, with the replies to them.
 
-mod command;
 mod fields;
-mod parse;
-mod print;
-mod run;
+mod line;
+mod poke;
+mod rack;
+mod reply;
+mod table;
 
-pub use command::{Command, Poke};
-pub use parse::parse;
-pub use print::{command_line, hex_text, reply_line};
-pub use run::{run, Rack, Reply};
+pub use line::{line_to, parse, Line};
+pub use poke::Poke;
+pub use rack::Rack;
+pub use reply::Reply;
+pub use table::{Command, Tool, Worded};
+
+use limits::ACTORS;
 
 /// Why a line is no command, or cannot be carried out.
 pub type Why = &'static str;
 
-/// The number of controllers.
-pub const RACKS: usize = 16;
+/// The number of controllers: one for each actor.
+pub const RACKS: usize = ACTORS;
 /// The longest line.
 pub const LINE_MAX: usize = 262_144;
 /// The longest lent output.

@@ -3,12 +3,13 @@
 
 use super::floor::Floor;
 use super::station::Said;
-use crate::script::Command;
+use crate::script::{Command, Worded};
+use ptl::Answer;
 
 /// Answers that a box meets in an honest day, beside 0 and those to noise.
-pub const TOO_FAR: u8 = 10;
-pub const TOMBSTONE_FULL: u8 = 11;
-pub const STORE_FULL: u8 = 12;
+pub const TOO_FAR: u8 = Answer::TooFar as u8;
+pub const TOMBSTONE_FULL: u8 = Answer::TombstoneFull as u8;
+pub const STORE_FULL: u8 = Answer::StoreFull as u8;
 
 impl Floor<'_> {
     /// A call, kept in flash if it was accepted. None if the power failed before that.
@@ -58,7 +59,7 @@ impl Floor<'_> {
         }
         if said.answer == STORE_FULL {
             let fill = self.random.byte();
-            self.stations[at].lend_more(self.engine, fill);
+            self.stations[at].lend_more(fill);
             said = self.act_if_on(at, command)?;
         }
         Some(said)

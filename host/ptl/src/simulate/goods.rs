@@ -1,6 +1,7 @@
 //! Parts, bins and the labels made of both: `SPRING@B7` says that gas springs are in bin 7 of
 //! rack B.
 
+use crate::script::RACKS;
 use std::fmt;
 
 /// The set that all boxes share.
@@ -26,7 +27,7 @@ pub const PARTS: [&str; 48] = [
     "ROLLER", "SCREW", "SEAL", "SENSOR", "SHAFT", "SWITCH", "VALVE", "WASHER",
 ];
 
-/// A bin: its rack, 0 to 15 for A to P, and its number in the rack, from 1.
+/// A bin: its rack, 0 and up for A and on, and its number in the rack, from 1.
 #[derive(Clone, Copy, PartialEq, Eq, PartialOrd, Ord, Debug)]
 pub struct Bin {
     pub rack: u8,
@@ -50,6 +51,6 @@ pub fn part_and_bin(label: &[u8]) -> Option<(&str, Bin)> {
     let (part, bin) = std::str::from_utf8(label).ok()?.split_once('@')?;
     let rack = bin.bytes().next()?.checked_sub(b'A')?;
     let number = bin.get(1..)?.parse().ok()?;
-    let known = rack < 16 && (1..=BINS).contains(&number);
+    let known = usize::from(rack) < RACKS && (1..=BINS).contains(&number);
     known.then_some((part, Bin { rack, number }))
 }

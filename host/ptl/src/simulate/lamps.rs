@@ -75,8 +75,8 @@ impl Floor<'_> {
             some => format!("; {some} boxes DISAGREED, see above"),
         };
         format!(
-            "Seen: right after the move {lying} of 16 boxes lit a bin that had been taken away \
-             ({springs} of them {SPRING_BIN} for the gas springs), at the end {end}; {agree} of 16 \
+            "Seen: right after the move {lying} of {RACKS} boxes lit a bin that had been taken away \
+             ({springs} of them {SPRING_BIN} for the gas springs), at the end {end}; {agree} of {RACKS} \
              list the {labels} labels that the rule gives over all {messages} messages{verdict}."
         )
     }

@@ -22,6 +22,7 @@ mod work;
 use crate::engine::Engine;
 use day::PHASES;
 use floor::Floor;
+use limits::TOMBSTONE_DOTS_MAX;
 use picture::Picture;
 use std::fs::File;
 use std::io::{self, Write};
@@ -119,7 +120,7 @@ fn foot(floor: &Floor, report: &mut dyn Write) -> io::Result<()> {
         "{LEGEND}
 {mistakable} garbled copies read as other messages of the set. The format has no check sum: the radio's
 own must stop these, and here it does.
-Dots that stay in a tombstone after the last compaction: at most {left} of 128 in a box.
+Dots that stay in a tombstone after the last compaction: at most {left} of {TOMBSTONE_DOTS_MAX} in a box.
 
 Bins that the lamps of each box light at the end of the day, and whether its listing is that of the
 rule of what it accepted and that of one rule of all messages, both computed apart from the boxes:

@@ -8,10 +8,9 @@ use super::goods::SET;
 use super::tally::Tally;
 use super::weather::Weather;
 use crate::random::Random;
+use limits::MESSAGE_HEAD;
+use ptl::Answer;
 use std::collections::BTreeMap;
-
-/// What a box answers to a message for another set.
-const OTHER_SET: u8 = 7;
 
 /// What is on its way.
 #[derive(Clone, Copy, PartialEq, Eq, Debug)]
@@ -130,7 +129,7 @@ fn garble(random: &mut Random, bytes: &mut Vec<u8>) {
 /// Changes one bit; half the time one of the mark, the version, the kind or the name.
 fn flip(random: &mut Random, bytes: &mut [u8], at: usize) {
     let at = match random.chance(50) {
-        true => random.below(12),
+        true => random.below(MESSAGE_HEAD + SET.len()),
         false => at,
     };
     if let Some(byte) = bytes.get_mut(at) {
@@ -143,7 +142,7 @@ fn refusal(bytes: &[u8]) -> Option<u8> {
     let read = reference::read_message(bytes);
     match read.message {
         None => Some(read.answer),
-        Some(message) if message.name != SET => Some(OTHER_SET),
+        Some(message) if message.name != SET => Some(Answer::OtherSet.number()),
         Some(_) => None,
     }
 }

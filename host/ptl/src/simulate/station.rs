@@ -2,9 +2,11 @@
 
 use super::goods::SET;
 use crate::engine::Engine;
-use crate::script::{run, Command, Rack, Reply};
+use crate::rule::tell;
+use crate::script::{Command, Rack, Reply, Worded};
+use limits::STORE_MAX;
 use ptl::{Entry, Listing, State};
-use reference::{read_context, read_message, Rule};
+use reference::Rule;
 
 /// The store that the first box starts with, how much longer that of each next one is, and by how
 /// much a store grows that stays full.
@@ -20,7 +22,7 @@ struct Flash {
 }
 
 pub struct Station {
-    /// The rack that it serves, 0 to 15 for A to P.
+    /// The rack that it serves, 0 and up for A and on.
     pub place: u8,
     memory: Rack,
     flash: Flash,
@@ -63,7 +65,7 @@ impl Station {
         let name = SET.to_vec();
         let said = station.call(engine, &Command::Setup { actor, name });
         let length = STORE + STORE_MORE * usize::from(station.place);
-        station.lend(engine, length, 0);
+        station.memory.lend(length, 0);
         station.keep();
         (station, said.answer)
     }
@@ -83,17 +85,14 @@ impl Station {
     /// Makes a call in working memory.
     pub fn call(&mut self, engine: &dyn Engine, command: &Command) -> Said {
         let mut message = vec![0; command.out()];
-        let reply = run(engine, &mut self.memory, command, &mut message);
-        let written = match &reply {
-            Ok(Reply::Wrote(wrote)) => wrote.written,
+        let reply = engine.run(&mut self.memory, command, &mut message);
+        let written = match reply {
+            Reply::Wrote(wrote) => wrote.written,
             _ => 0,
         };
         message.truncate(written);
-        let answer = reply.ok().and_then(|reply| reply.answer());
-        Said {
-            answer: answer.unwrap_or(0),
-            message,
-        }
+        let answer = reply.answer();
+        Said { answer, message }
     }
 
     /// Writes block and used store to flash, both.
@@ -120,32 +119,14 @@ impl Station {
     }
 
     /// Lends a longer store, up to the longest.
-    pub fn lend_more(&mut self, engine: &dyn Engine, fill: u8) {
-        let length = (self.memory.store.len() + STORE_STEP).min(ptl::STORE_MAX);
-        self.lend(engine, length, fill);
-    }
-
-    fn lend(&mut self, engine: &dyn Engine, length: usize, fill: u8) {
-        self.call(engine, &Command::Buffer { length, fill });
+    pub fn lend_more(&mut self, fill: u8) {
+        let length = (self.memory.store.len() + STORE_STEP).min(STORE_MAX);
+        self.memory.lend(length, fill);
     }
 
     /// Tells the rule of an accepted call. False if no rule lets such a call be accepted.
     pub fn tell(&mut self, command: &Command) -> bool {
-        match command {
-            Command::Add { label, context, .. } => {
-                let dots = read_context(context);
-                dots.map(|dots| self.rule.own_add(label, &dots)).is_some()
-            }
-            Command::Remove { context, .. } => {
-                let dots = read_context(context);
-                dots.map(|dots| self.rule.own_remove(&dots)).is_some()
-            }
-            Command::Take { message } => {
-                let message = read_message(message).message;
-                message.map(|message| self.rule.take_in(&message)).is_some()
-            }
-            _ => true,
-        }
+        tell(&mut self.rule, command)
     }
 
     pub fn accept(&mut self, number: usize) {
@@ -166,12 +147,21 @@ impl Station {
 
     /// What the box lists; none if it refuses.
     pub fn listing(&self, engine: &dyn Engine) -> Option<Listing> {
-        let Rack { state, store } = &self.memory;
-        let mut bytes = vec![0; self.memory.used()];
-        let listed = engine.list(state, store, &mut bytes);
-        bytes.truncate(listed.written);
-        let labels = listed.labels;
-        (listed.answer == 0).then_some(Listing { bytes, labels })
+        let out = self.memory.used();
+        let mut bytes = vec![0; out];
+        match self.ask(engine, &Command::List { out }, &mut bytes) {
+            Reply::Listed(listed) if listed.answer == 0 => {
+                bytes.truncate(listed.written);
+                let labels = listed.labels;
+                Some(Listing { bytes, labels })
+            }
+            _ => None,
+        }
+    }
+
+    /// Makes a call that only reads: on a copy of working memory.
+    fn ask(&self, engine: &dyn Engine, command: &Command, out: &mut [u8]) -> Reply {
+        engine.run(&mut self.memory.clone(), command, out)
     }
 
     pub fn entries(&self, engine: &dyn Engine) -> Vec<Entry> {
@@ -181,8 +171,10 @@ impl Station {
 
     /// Whether the lamp of a label is lit.
     pub fn lights(&self, engine: &dyn Engine, label: &[u8]) -> bool {
-        let Rack { state, store } = &self.memory;
-        let looked = engine.lookup(state, store, label);
-        looked.answer == 0 && looked.listed
+        let label = label.to_vec();
+        match self.ask(engine, &Command::Lookup { label }, &mut []) {
+            Reply::Looked(looked) => looked.answer == 0 && looked.listed,
+            _ => false,
+        }
     }
 }

@@ -1,7 +1,7 @@
 //! The counts of a phase, and its line.
 
-/// Answers of the table.
-const ANSWERS: usize = 14;
+use crate::script::RACKS;
+use limits::ANSWERS;
 
 /// What happened in a phase.
 #[derive(Clone, Default)]
@@ -47,7 +47,10 @@ impl Tally {
         let counts: String = counts.iter().map(|count| column(count)).collect();
         let given = self.answers.iter().enumerate().filter(|(_, n)| **n > 0);
         let given: Vec<String> = given.map(|(a, n)| format!("{a}:{n}")).collect();
-        format!("{phase:<10}{counts}   {agree:>2}/16  {}", given.join(" "))
+        format!(
+            "{phase:<10}{counts}   {agree:>2}/{RACKS}  {}",
+            given.join(" ")
+        )
     }
 }
 

@@ -1,19 +1,16 @@
 //! The simulation finds what it is for: boxes with one fault each are told, with seed and call.
 
-mod faulty;
-
 use super::goods::{label, part_and_bin, Bin, BINS};
 use super::radio::{Cargo, Letter, Radio};
 use super::station::Station;
 use super::tally::Tally;
 use super::weather::Weather;
 use super::{simulate, Options};
-use crate::engine::{Engine, Product};
+use crate::engine::{Engine, Fault, Faulty, Product};
 use crate::random::Random;
-use crate::script::Command;
-use faulty::{Fault, Faulty};
-use ptl::{dots_to_bytes, Dot, MESSAGE_MAX};
-use std::cell::Cell;
+use crate::script::{Command, RACKS};
+use limits::MESSAGE_MAX;
+use ptl::{dots_to_bytes, Dot};
 use std::collections::BTreeSet;
 
 /// A run: its exit status, and what was printed.
@@ -30,8 +27,7 @@ fn run(engine: &dyn Engine, seed: u64, quiet: bool) -> (u8, String) {
 
 /// The first disagreement that a run with this fault tells of.
 fn told(fault: Fault) -> String {
-    let calls = Cell::new(0);
-    let (status, report) = run(&Faulty { fault, calls }, 7, false);
+    let (status, report) = run(&Faulty::new(&Product, fault), 7, false);
     assert_eq!(status, 1, "{fault:?}: {report}");
     let last = report.lines().last().unwrap_or_default();
     assert!(last.starts_with("Seen: "), "{fault:?}: {last}");
@@ -183,7 +179,7 @@ fn a_power_cut_leaves_what_was_kept() {
 
 #[test]
 fn labels_are_read_as_they_are_written() {
-    for rack in 0..16 {
+    for rack in 0..RACKS as u8 {
         for number in 1..=BINS {
             let bin = Bin { rack, number };
             assert_eq!(part_and_bin(&label("BOLT-M8", bin)), Some(("BOLT-M8", bin)));

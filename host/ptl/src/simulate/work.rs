@@ -3,10 +3,8 @@
 use super::floor::Floor;
 use super::goods::{label, part_and_bin, Bin, BINS, PARTS, SPRING};
 use crate::script::Command;
-use ptl::{dots_to_bytes, Dot, Entry, MESSAGE_MAX};
-
-/// The most dots in a context.
-const CONTEXT_MAX: usize = 16;
+use limits::{CONTEXT_DOTS_MAX, MESSAGE_MAX};
+use ptl::{dots_to_bytes, Dot, Entry};
 
 pub enum Job {
     /// A label is added.
@@ -146,5 +144,5 @@ fn remove(context: &[Dot]) -> Command {
 
 /// As many of the dots as a context takes.
 fn context_bytes(dots: &[Dot]) -> Vec<u8> {
-    dots_to_bytes(&dots[..dots.len().min(CONTEXT_MAX)])
+    dots_to_bytes(&dots[..dots.len().min(CONTEXT_DOTS_MAX)])
 }

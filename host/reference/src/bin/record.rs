@@ -2,75 +2,80 @@
 //!
 //!   record stdin --seed S --calls N    a recording of about N calls; how often each call gave
 //!                                      each answer goes to standard error
-//!   record stdout < RECORDING          what this program answers to a recording
+//!   record stdout < LINES              what this program's console answers
 //!
-//! A recording has one call to a line, a letter and its fields, bytes in hexadecimal digits and
-//! `-` for none. The calls of one controller stand together and start with its set-up. After
-//! each call's letter and answer comes what the call gave (`call`, `desk`).
+//! A recording is lines of the console, and depends on no line before it: each controller's part
+//! begins with a set-up and a store lent anew. State and store are shown after every few calls
+//! that may change them and at the end of each part. `tests/recording.rs` tells which files are
+//! written by this.
 
-#[path = "record/call.rs"]
-mod call;
 #[path = "../../tests/common/mod.rs"]
 mod common;
-#[path = "record/desk.rs"]
-mod desk;
+#[path = "record/console.rs"]
+mod console;
+#[path = "record/controller.rs"]
+mod controller;
 #[path = "record/edges.rs"]
 mod edges;
-#[path = "record/node.rs"]
-mod node;
+#[path = "record/fields.rs"]
+mod fields;
+#[path = "record/recording.rs"]
+mod recording;
 #[path = "record/world.rs"]
 mod world;
 
 use common::Xorshift;
-use desk::answers;
-use node::{Node, Tally};
+use console::answers;
+use recording::{Recording, Tally, CALLS};
 use std::fmt::Write as _;
 use std::io::{Read, Write as _};
 use world::World;
 
+/// Adds its lines to a recording.
+type Block = fn(&mut Recording);
+
+/// The fixed blocks, and what each is about.
+const BLOCKS: [(&str, Block); 10] = [
+    ("Set-ups", edges::set_ups),
+    ("Lines that break the form", edges::broken_lines),
+    ("Own calls and lookups", edges::own_calls),
+    ("Windows", edges::windows),
+    ("Largest counters", edges::largest_counters),
+    ("Stores", edges::stores),
+    ("A full tombstone", edges::full_tombstone),
+    ("Messages", edges::messages),
+    ("Keys", edges::keys),
+    ("Damage", edges::damage),
+];
+
 /// A recording of about so many calls: the fixed blocks, and then worlds of some 300 calls.
-fn recorded(seed: u64, calls: usize) -> Vec<Node> {
+fn recorded(seed: u64, calls: usize) -> Recording {
     let mut random = Xorshift(seed.wrapping_mul(0x9E37_79B9_7F4A_7C15) | 1);
-    let mut nodes = vec![
-        edges::set_ups(),
-        edges::broken_lines(),
-        edges::own_calls(),
-        edges::windows(),
-        edges::stores(),
-        edges::full_tombstone(),
-        edges::messages(),
-    ];
-    let mut done: usize = nodes.iter().map(|node| node.lines.len()).sum();
+    let mut recording = Recording::new();
+    for (about, block) in BLOCKS {
+        recording.note(about);
+        block(&mut recording);
+    }
     let mut wild = false;
-    while done < calls {
-        let mut world = World::new(&mut random, wild);
-        let size = 300.min(calls - done);
-        while world.calls() < size {
-            world.step(&mut random);
-        }
-        done += world.calls();
-        nodes.extend(world.nodes);
+    while recording.calls < calls {
+        let most = calls.min(recording.calls + 300);
+        World::new(&mut recording, &mut random, wild).run(&mut random, most);
         wild = !wild;
     }
-    nodes
+    recording.end();
+    recording
 }
 
 /// How often each call gave each answer, as a table.
-fn table(nodes: &[Node]) -> String {
-    let mut all = Tally::new();
-    for (what, count) in nodes.iter().flat_map(|node| &node.tally) {
-        *all.entry(*what).or_default() += count;
-    }
-    let mut text = "call".to_string();
+fn table(tally: &Tally) -> String {
+    let mut text = format!("{:11}", "call");
     for answer in 0..=13 {
         write!(text, "{answer:>5}").expect("a string takes all");
     }
-    for letter in *b"sartlkc" {
-        write!(text, "\n{:4}", char::from(letter)).expect("a string takes all");
-        for answer in 0..=13 {
-            let count = all.get(&(letter, answer)).unwrap_or(&0);
-            write!(text, "{count:>5}").expect("a string takes all");
-        }
+    for call in CALLS {
+        let count = |answer| tally.get(&(call, answer)).unwrap_or(&0);
+        let counts: String = (0..=13).map(|a| format!("{:>5}", count(a))).collect();
+        write!(text, "\n{call:11}{counts}").expect("a string takes all");
     }
     text
 }
@@ -80,17 +85,17 @@ fn main() -> std::io::Result<()> {
     let words: Vec<&str> = words.iter().map(String::as_str).collect();
     let text = match words[..] {
         ["stdout"] => {
-            let mut recording = Vec::new();
-            std::io::stdin().read_to_end(&mut recording)?;
-            answers(&recording)
+            let mut lines = Vec::new();
+            std::io::stdin().read_to_end(&mut lines)?;
+            answers(&lines)
         }
         ["stdin", "--seed", seed, "--calls", calls] => {
             let (Ok(seed), Ok(calls)) = (seed.parse(), calls.parse()) else {
                 return usage();
             };
-            let nodes = recorded(seed, calls);
-            eprintln!("{}", table(&nodes));
-            let lines = nodes.iter().flat_map(|node| &node.lines);
+            let recording = recorded(seed, calls);
+            eprintln!("{}", table(&recording.tally));
+            let lines = recording.lines.iter();
             lines.map(|line| format!("{line}\n")).collect()
         }
         _ => return usage(),
@@ -99,6 +104,6 @@ fn main() -> std::io::Result<()> {
 }
 
 fn usage() -> std::io::Result<()> {
-    eprintln!("usage: record stdin --seed S --calls N | record stdout < RECORDING");
+    eprintln!("usage: record stdin --seed S --calls N | record stdout < LINES");
     std::process::exit(2)
 }

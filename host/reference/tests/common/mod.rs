@@ -41,7 +41,7 @@ impl Bench {
 
     pub fn set_tombstone(&mut self, list: &[(u8, u64)]) {
         let bytes = dots(list);
-        self.state.tombstone = [0; 1152];
+        self.state.tombstone = State::zero().tombstone;
         self.state.tombstone[..bytes.len()].copy_from_slice(&bytes);
         self.state.count = list.len() as u64;
     }

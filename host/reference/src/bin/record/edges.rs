@@ -1,40 +1,25 @@
 //! Blocks of calls on both sides of each rule, the same in every recording.
 
-use crate::call::{Call, STORE};
-use crate::common::{add_message, dots, dots_of, remove_message, LARGEST};
-use crate::node::Node;
-use reference::STORE_FULL;
+use crate::common::{add_message, dots, dots_of, key, remove_message, LARGEST};
+use crate::recording::{Node, Recording, AMPLE};
+use reference::{DAMAGED, STORE_FULL};
 
-/// Lines that break the form.
-const BROKEN: [&str; 28] = [
-    "",
-    " ",
+/// Lines that break the form: no command, a field too few, no number.
+const BROKEN: [&str; 14] = [
     "x",
-    "c ",
-    " c",
-    "cc",
-    "c -",
-    "l",
-    "l 100",
-    "l 1001",
-    "l 10G0",
-    "l 00fF",
-    "l -",
-    "a 42 - 0401",
-    "a 42 0400",
-    "a 42  0400",
-    "r - 0401",
-    "r -- 0020",
-    "t 5",
-    "t",
-    "t 5g",
-    "b 1001",
-    "b 10000",
-    "s 1 5231",
-    "s 0101 5231",
-    "s - 5231",
-    "s 01",
-    "k 4",
+    "Compact",
+    "setups 1 R1",
+    "setup 1",
+    "add B7 -",
+    "remove -",
+    "take",
+    "lookup",
+    "buffer 64",
+    "setup x R1",
+    "add B7 - 1x",
+    "remove - -1",
+    "list 007",
+    "buffer 6F 0",
 ];
 
 /// Contexts that a controller of actor 1 with three own adds refuses by 6 or 8.
@@ -75,10 +60,53 @@ const FAULTS: [(usize, u8); 21] = [
     (22, 1),
 ];
 
+/// Keys to write, with the lengths of their outputs.
+const KEYS: [&str; 16] = [
+    "e R1 B7 3 258 19",
+    "e R1 B7 3 258 18",
+    "e R1 - 3 258 64",
+    "e - B7 3 258 64",
+    "e R%001 B7 3 258 64",
+    "e R1 B%007 3 258 64",
+    "e R1 B7 0 258 64",
+    "e R1 B7 17 0 64",
+    "e R1 B7 16 0 64",
+    "c R1 - 16 0 9",
+    "c R1 - 0 0 9",
+    "c R1 - 1 0 8",
+    "d ABCDEFGHIJKLMNOP B%007 1 7 23",
+    "d ABCDEFGHIJKLMNOPQ - 1 7 64",
+    "z %FF - 0 0 7",
+    "z %FF B7 17 9 6",
+];
+
+/// Pokes that each damage a controller of actor 1 with two keys and a tombstone of one dot.
+const DAMAGE: [&str; 18] = [
+    "actor 0",
+    "actor 17",
+    "namelen 0",
+    "namelen 1",
+    "namelen 17",
+    "name R2",
+    "base 1 0",
+    "base 2 0",
+    "window 1 2",
+    "window 2 1",
+    "count 0",
+    "count 2",
+    "count 18446744073709551615",
+    "dot 0 2 2",
+    "dot 127 2 1",
+    "used 37",
+    "used 65",
+    "byte 5 99",
+];
+
 /// Refused set-ups, each with a call after it, and the longest name.
-pub fn set_ups() -> Node {
-    let mut node = Node::new(0, b"R1");
+pub fn set_ups(recording: &mut Recording) {
+    let mut node = recording.start(0, 0, b"R1", 128);
     node.compact();
+    node.show();
     for (actor, name) in [
         (17, &b"R1"[..]),
         (1, b""),
@@ -87,34 +115,28 @@ pub fn set_ups() -> Node {
         (255, &[7; 256]),
         (16, b"ABCDEFGHIJKLMNOP"),
     ] {
-        node.call(Call::SetUp(actor, name.to_vec()));
+        node.set_up(actor, name);
         node.list(64);
+        node.show();
     }
-    let sent = node.add(&[255; 32], &dots(&dots_of(3, 1..=16))).written;
-    node.take(&sent);
+    let sent = node.add(&[255; 32], &dots(&dots_of(3, 1..=16)));
+    node.take(&sent.written);
     node.lookup(&[255; 32]);
-    node
 }
 
-/// Lines that break the form, and some at its limits.
-pub fn broken_lines() -> Node {
-    let mut node = Node::new(1, b"R1");
+/// Lines that break the form.
+pub fn broken_lines(recording: &mut Recording) {
+    let mut node = recording.start(1, 1, b"R1", 32);
     node.add(b"B7", b"");
     for line in BROKEN {
-        node.line(line);
+        node.say(line);
     }
-    for length in [1023, 1024] {
-        node.line(&format!("t {}", "5".repeat(2 * length)));
-    }
-    node.line(&format!("k {}", "41".repeat(256)));
-    node.line(&format!("k {}", "41".repeat(257)));
     node.compact();
-    node
 }
 
-/// Labels, contexts and rooms of own calls and lookups.
-pub fn own_calls() -> Node {
-    let mut node = Node::new(1, b"R1");
+/// Labels, contexts and outputs of own calls and lookups.
+pub fn own_calls(recording: &mut Recording) {
+    let mut node = recording.start(2, 1, b"R1", 256);
     let labels: [&[u8]; 6] = [b"B7", b"", b"B\x007", &[66; 32], &[66; 33], b"\x01"];
     for label in labels {
         node.add(label, b"");
@@ -126,27 +148,33 @@ pub fn own_calls() -> Node {
         node.add(b"B7", &dots(context));
         node.remove(&dots(context));
     }
-    for context in [&dots(&dots_of(2, 1..=17))[..], &[2; 8], &[2; 10], &[0; 9]] {
-        node.add(b"B7", context);
-        node.remove(context);
+    for count in [17, 18, 255, 256, 600] {
+        let context = dots(&dots_of(2, 1..=count));
+        node.add(b"B7", &context);
+        node.remove(&context);
     }
-    for (context, length) in [(dots(&dots_of(2, 1..=16)), 144), (Vec::new(), 0)] {
-        for room in [0, length + 19, length + 20] {
-            node.add_into(b"\x01", &context, room + 1);
-            node.remove_into(&context, (room + 1).saturating_sub(11));
-            node.remove_into(&context, room.saturating_sub(10));
+    outputs(&mut node);
+}
+
+/// Outputs one too short, long enough, longer.
+fn outputs(node: &mut Node) {
+    for count in [16, 0] {
+        let context = dots(&dots_of(2, 1..=count));
+        let (add, remove) = (context.len() + 21, context.len() + 10);
+        for (add, remove) in [(0, 0), (add - 1, remove - 1), (add, remove), (300, 300)] {
+            node.remove_into(&context, remove);
+            node.add_into(b"\x01", &context, add);
         }
     }
-    node.list(0);
     let length = node.listing().len();
-    node.list(length - 1);
-    node.list(length);
-    node
+    for out in [0, length - 1, length] {
+        node.list(out);
+    }
 }
 
 /// Windows of 64 events: their ends, a window that becomes full, the largest counter.
-pub fn windows() -> Node {
-    let mut node = Node::new(2, b"R1");
+pub fn windows(recording: &mut Recording) {
+    let mut node = recording.start(3, 2, b"R1", 256);
     for counter in [65, 64, LARGEST, LARGEST - 1] {
         node.remove(&dots(&[(3, counter)]));
         node.add(b"B7", &dots(&[(4, counter)]));
@@ -163,47 +191,65 @@ pub fn windows() -> Node {
     node.take(&add_message(b"R1", b"B9", (6, 66), &[(6, 65)]));
     node.take(&add_message(b"R1", b"B9", (6, 66), &[(6, 66)]));
     node.take(&add_message(b"R1", b"B9", (6, 66), &[(6, 67)]));
-    node.list(STORE);
+    node.list(AMPLE);
     node.compact();
-    node
 }
 
-/// A store that is full or shrinks.
-pub fn stores() -> Node {
-    let mut node = Node::new(1, b"R1");
-    for size in [0, 18, 19, 37, 38] {
-        node.lend(size);
+/// Rows near the largest counter, the own one and another.
+pub fn largest_counters(recording: &mut Recording) {
+    let mut node = recording.start(0, 9, b"R1", 128);
+    node.say(&format!("poke base 9 {}", LARGEST - 2));
+    node.say(&format!("poke base 8 {}", LARGEST - 3));
+    for _ in 0..3 {
+        node.add(b"B7", b"");
+    }
+    node.add(b"B7", &dots(&[(9, LARGEST)]));
+    node.remove(&dots(&[(9, LARGEST)]));
+    for counter in [LARGEST, LARGEST - 1, LARGEST - 2, LARGEST] {
+        node.take(&add_message(b"R1", b"B8", (8, counter), &[]));
+        node.take(&remove_message(b"R1", &[(8, counter)]));
+    }
+    node.list(AMPLE);
+    node.compact();
+}
+
+/// A store that is full, grows, or is too long.
+pub fn stores(recording: &mut Recording) {
+    let mut node = recording.start(1, 1, b"R1", 0);
+    for length in [0, 18, 19, 37, 38] {
+        node.lend(length);
         node.add(b"B7", b"");
         node.take(&add_message(b"R1", b"A1", (2, 1), &[]));
     }
-    node.lend(37);
-    node.add_into(b"B7", b"", 0);
-    node.remove(b"");
-    node.take(&remove_message(b"R1", &[]));
-    node.list(STORE);
-    node.lookup(b"B7");
-    node.compact();
-    node.lend(38);
     let sent = node.add(b"A1", &dots(&[(1, 1), (2, 1)]));
     assert_eq!(sent.answer, Some(STORE_FULL));
     node.remove(&dots(&[(1, 1), (2, 1)]));
     node.compact();
     node.add(b"A1", &dots(&[(1, 1), (2, 1)]));
     node.take(&add_message(b"R1", b"A1", (2, 1), &[]));
-    node.list(STORE);
-    node
+    for length in [65_536, 65_537, 70_000] {
+        node.lend(length);
+        node.list(70_000);
+        node.lookup(b"B7");
+        node.add(b"B7", b"");
+        node.compact();
+        node.say("buffer 57 9");
+    }
+    node.lend(18);
+    node.list(AMPLE);
+    node.compact();
 }
 
 /// A tombstone of 128 dots: one more is refused, one that is in it is not.
-pub fn full_tombstone() -> Node {
-    let mut node = Node::new(7, b"R1");
+pub fn full_tombstone(recording: &mut Recording) {
+    let mut node = recording.start(2, 7, b"R1", 64);
     for actor in [2, 3, 2, 3] {
         for from in [1, 17, 33, 49] {
             let context = dots_of(actor, from..=from + 15);
             node.take(&remove_message(b"R1", &context));
         }
     }
-    assert_eq!(node.desk.state.count, 128);
+    assert_eq!(node.state().count, 128);
     let sent = node.add(b"B7", &dots(&[(2, 5)])).written;
     let more = dots(&[(7, 1)]);
     node.add(b"B7", &more);
@@ -215,35 +261,65 @@ pub fn full_tombstone() -> Node {
     node.compact();
     node.take(&add_message(b"R1", b"B8", (9, 1), &[(3, 64)]));
     node.remove(&dots(&[(9, 1)]));
-    node.list(STORE);
-    node
+    node.list(AMPLE);
 }
 
-/// Messages that break each rule, at their shortest and at their longest.
-pub fn messages() -> Node {
-    let mut node = Node::new(1, b"R1");
+/// Messages that break each rule, at their shortest and at their longest: read, and taken in.
+pub fn messages(recording: &mut Recording) {
+    let mut node = recording.start(3, 1, b"R1", 128);
     let good = add_message(b"R1", b"B7", (2, 1), &[(3, 1)]);
+    let mut all: Vec<Vec<u8>> = Vec::new();
     for (at, byte) in FAULTS {
         let mut message = good.clone();
         message[at] = byte;
-        node.take(&message);
+        all.push(message);
     }
-    for length in 0..good.len() {
-        node.take(&good[..length]);
-    }
-    node.take(&[&good[..], &[0]].concat());
-    for (name, label, count) in [
-        (2, 32, 16),
-        (2, 33, 16),
-        (17, 2, 16),
-        (2, 32, 17),
-        (16, 32, 16),
-    ] {
+    all.extend((0..=good.len()).map(|length| good[..length].to_vec()));
+    all.push([&good[..], &[0]].concat());
+    let lengths = [(2, 32, 16), (2, 33, 16), (17, 2, 16), (2, 32, 17)];
+    for (name, label, count) in [&lengths[..], &[(16, 32, 16)]].concat() {
         let context = dots_of(3, 1..=count);
         let name = &b"R1CDEFGHIJKLMNOPQ"[..name];
-        node.take(&add_message(name, &[b'B'; 33][..label], (4, 1), &context));
-        node.take(&remove_message(name, &context));
+        all.push(add_message(name, &[b'B'; 33][..label], (4, 1), &context));
+        all.push(remove_message(name, &context));
     }
-    node.take(&good);
-    node
+    for message in all {
+        node.read_message(&message);
+        node.take(&message);
+    }
+}
+
+/// Keys written; a label key with each byte changed in turn, cut off, and one byte longer.
+pub fn keys(recording: &mut Recording) {
+    let mut node = recording.start(0, 1, b"R1", 0);
+    for fields in KEYS {
+        let reply = node.say(&format!("key {fields}"));
+        node.read_key(&reply.written);
+    }
+    let good = key(b"B7", (3, 258));
+    for (at, byte) in good.iter().enumerate() {
+        let mut changed = good.clone();
+        changed[at] = byte ^ 1;
+        node.read_key(&changed);
+        node.read_key(&good[..at]);
+    }
+    node.read_key(&[&good[..], &[0]].concat());
+}
+
+/// Every call on a controller that is damaged in one place.
+pub fn damage(recording: &mut Recording) {
+    for poke in DAMAGE {
+        let mut node = recording.start(1, 1, b"R1", 64);
+        node.add(b"B7", b"");
+        node.take(&add_message(b"R1", b"B8", (2, 1), &[]));
+        node.remove(&dots(&[(2, 1)]));
+        node.say(&format!("poke {poke}"));
+        node.add(b"B7", b"");
+        node.remove(b"");
+        node.take(&remove_message(b"R1", &[]));
+        node.list(AMPLE);
+        node.lookup(b"B7");
+        let last = node.say("compact");
+        assert_eq!(last.answer, Some(DAMAGED), "{poke}");
+    }
 }

@@ -1,174 +1,187 @@
 //! Controllers of one set that make random calls and exchange messages, which are lost, repeated,
 //! shuffled, cut and garbled.
 
-use crate::call::{OUTPUT, STORE};
-use crate::common::{add_message, dots, remove_message, Xorshift, LARGEST};
-use crate::desk::Reply;
-use crate::node::Node;
-use reference::DONE;
+use crate::common::{add_message, dots, key, remove_message, Xorshift, LARGEST};
+use crate::recording::{Node, Recording, Reply, AMPLE, CONTROLLERS};
 
-pub const LABELS: [&[u8]; 6] = [b"B7", b"B70", b"B8", b"A", &[255; 32], b"\x01"];
-pub const BAD_LABELS: [&[u8]; 4] = [b"", b"B\x007", &[66; 33], b"\x00"];
-pub const NAMES: [&[u8]; 3] = [b"R1", b"RACK-NORTH-AISLE", b"\xff"];
+const LABELS: [&[u8]; 6] = [b"B7", b"B70", b"B8", b"A", &[255; 32], b"\x01"];
+const BAD_LABELS: [&[u8]; 4] = [b"", b"B\x007", &[66; 33], b"\x00"];
+const NAMES: [&[u8]; 3] = [b"R1", b"RACK-NORTH-AISLE", b"\xff"];
 /// Counters at which a rule changes its mind.
-pub const COUNTERS: [u64; 12] = [1, 2, 3, 62, 63, 64, 65, 66, 128, 0, LARGEST - 1, LARGEST];
+const COUNTERS: [u64; 12] = [1, 2, 3, 62, 63, 64, 65, 66, 128, 0, LARGEST - 1, LARGEST];
+/// The longest store that is lent.
+const STORE: usize = 400;
 
 /// Controllers of one set, and all messages that they sent so far.
-pub struct World {
-    pub name: &'static [u8],
-    pub nodes: Vec<Node>,
-    pub actors: Vec<u8>,
-    pub sent: Vec<Vec<u8>>,
-    /// Contexts, labels and messages may break rules.
-    pub wild: bool,
+pub struct World<'a> {
+    recording: &'a mut Recording,
+    name: &'static [u8],
+    actors: Vec<u8>,
+    sent: Vec<Vec<u8>>,
+    /// Contexts, labels, messages and states may break rules.
+    wild: bool,
 }
 
-impl World {
-    pub fn new(random: &mut Xorshift, wild: bool) -> World {
+impl World<'_> {
+    pub fn new<'a>(recording: &'a mut Recording, random: &mut Xorshift, wild: bool) -> World<'a> {
         let name = *random.pick(&NAMES);
         let mut actors = Vec::new();
-        while actors.len() < 5 {
+        while actors.len() < CONTROLLERS + 1 {
             let actor = 1 + random.below(16) as u8;
             if !actors.contains(&actor) {
                 actors.push(actor);
             }
         }
-        let nodes = actors[..4].iter().map(|a| Node::new(*a, name)).collect();
+        recording.note(match wild {
+            false => "Four controllers and a bad radio",
+            true => "Four controllers and a bad radio, rules broken",
+        });
+        for (at, actor) in actors[..CONTROLLERS].iter().enumerate() {
+            recording.start(at, *actor, name, STORE);
+        }
         World {
+            recording,
             name,
-            nodes,
             actors,
             sent: Vec::new(),
             wild,
         }
     }
 
-    pub fn calls(&self) -> usize {
-        self.nodes.iter().map(|node| node.lines.len()).sum()
+    /// Random calls until the recording has so many.
+    pub fn run(&mut self, random: &mut Xorshift, calls: usize) {
+        while self.recording.calls < calls {
+            self.step(random);
+        }
+    }
+
+    fn node(&mut self, at: usize) -> Node<'_> {
+        self.recording.node(at)
     }
 
     /// One random call of one random controller.
-    pub fn step(&mut self, random: &mut Xorshift) {
-        let at = random.below(self.nodes.len() as u64) as usize;
+    fn step(&mut self, random: &mut Xorshift) {
+        let at = random.below(CONTROLLERS as u64) as usize;
         match random.below(100) {
             0..=21 => self.add(random, at),
             22..=33 => self.remove(random, at),
-            34..=38 => self.nodes[at].compact(),
+            34..=38 => self.node(at).compact(),
             39..=41 => self.list(random, at),
             42..=47 => self.lookup(random, at),
-            48..=52 => self.lend(random, at),
-            53..=60 if self.wild => self.stray(random, at),
-            61..=66 if self.wild => self.garbled(random, at),
+            48..=50 => self.lend(random, at),
+            51..=52 => self.key(random, at),
+            53..=59 if self.wild => self.stray(random, at),
+            60..=65 if self.wild => self.garbled(random, at),
+            66 if self.wild => self.damaged(random, at),
             _ => self.deliver(random, at),
         }
     }
 
-    /// A room: ample, or at the length that is needed, or next to it, or any.
-    pub fn room(&self, random: &mut Xorshift, needed: usize, most: usize) -> usize {
+    /// The length of an output: ample, or what is needed, or one less, or any.
+    fn out(&self, random: &mut Xorshift, needed: usize) -> usize {
         match random.below(20) {
             0 => needed.saturating_sub(1),
-            1 => needed.min(most),
+            1 => needed,
             2 => random.below(30) as usize,
-            _ => most,
+            _ => AMPLE,
         }
     }
 
     /// Some of the dots listed; where rules may be broken, also any other dots in any order.
-    pub fn context(&mut self, random: &mut Xorshift, at: usize, percent: u64) -> Vec<u8> {
-        let mut context = self.nodes[at].live();
+    fn context(&mut self, random: &mut Xorshift, at: usize, percent: u64) -> Vec<u8> {
+        let mut context = self.node(at).live();
         context.retain(|_| random.chance(percent));
         context.truncate(16);
-        if self.wild {
-            while random.chance(30) {
-                let dot = (self.actor(random), self.counter(random));
-                let bytes = dots(&[dot]).try_into().expect("nine bytes");
-                context.push(bytes);
-            }
-            if random.chance(92) {
-                context.sort();
-                context.dedup();
-            }
+        while self.wild && random.chance(30) {
+            let dot = (self.actor(random), self.counter(random));
+            context.push(dots(&[dot]).try_into().expect("nine bytes"));
         }
-        let mut bytes = context.concat();
-        if self.wild && random.chance(3) {
-            bytes.truncate(random.below(bytes.len() as u64 + 1) as usize);
+        if random.chance(92) {
+            context.sort();
+            context.dedup();
         }
-        bytes
+        context.concat()
     }
 
-    pub fn actor(&self, random: &mut Xorshift) -> u8 {
+    fn actor(&self, random: &mut Xorshift) -> u8 {
         if random.chance(6) {
             return *random.pick(&[0, 17, 255]);
         }
         *random.pick(&self.actors)
     }
 
-    pub fn counter(&self, random: &mut Xorshift) -> u64 {
+    fn counter(&self, random: &mut Xorshift) -> u64 {
         if random.chance(25) {
             return *random.pick(&COUNTERS);
         }
         1 + random.below(20)
     }
 
-    pub fn label(&self, random: &mut Xorshift) -> &'static [u8] {
+    fn label(&self, random: &mut Xorshift) -> &'static [u8] {
         if self.wild && random.chance(6) {
             return random.pick::<&[u8]>(&BAD_LABELS);
         }
         random.pick::<&[u8]>(&LABELS)
     }
 
-    pub fn add(&mut self, random: &mut Xorshift, at: usize) {
+    fn add(&mut self, random: &mut Xorshift, at: usize) {
         let label = self.label(random);
         let context = self.context(random, at, 15);
         let needed = self.name.len() + label.len() + context.len() + 18;
-        let room = self.room(random, needed, OUTPUT);
-        let reply = self.nodes[at].add_into(label, &context, room);
+        let out = self.out(random, needed);
+        let reply = self.node(at).add_into(label, &context, out);
         self.send(reply);
     }
 
-    pub fn remove(&mut self, random: &mut Xorshift, at: usize) {
+    fn remove(&mut self, random: &mut Xorshift, at: usize) {
         let context = self.context(random, at, 25);
         let needed = self.name.len() + context.len() + 8;
-        let room = self.room(random, needed, OUTPUT);
-        let reply = self.nodes[at].remove_into(&context, room);
+        let out = self.out(random, needed);
+        let reply = self.node(at).remove_into(&context, out);
         self.send(reply);
     }
 
-    pub fn send(&mut self, reply: Reply) {
-        if reply.answer == Some(DONE) {
-            self.sent.push(reply.written);
-        }
+    fn send(&mut self, reply: Reply) {
+        self.sent.extend(reply.message());
     }
 
-    pub fn list(&mut self, random: &mut Xorshift, at: usize) {
-        let needed = self.nodes[at].listing().len();
-        let room = self.room(random, needed, STORE);
-        self.nodes[at].list(room);
+    fn list(&mut self, random: &mut Xorshift, at: usize) {
+        let needed = self.node(at).listing().len();
+        let out = self.out(random, needed);
+        self.node(at).list(out);
     }
 
-    pub fn lookup(&mut self, random: &mut Xorshift, at: usize) {
+    fn lookup(&mut self, random: &mut Xorshift, at: usize) {
         let label = self.label(random);
-        self.nodes[at].lookup(label);
+        self.node(at).lookup(label);
     }
 
-    /// Another size of the store: ample, or about what the next key needs; in a wild run now and
-    /// then less than is used.
-    pub fn lend(&mut self, random: &mut Xorshift, at: usize) {
-        let used = self.nodes[at].used();
+    /// Another length of the store: ample, or about what the next key needs.
+    fn lend(&mut self, random: &mut Xorshift, at: usize) {
+        let used = self.node(at).state().used as usize;
         let key = self.name.len() + random.pick(&LABELS).len() + 15;
-        let size = match random.below(10) {
-            0 if self.wild => used.saturating_sub(1),
-            1 => used,
-            2 => used + key - 1,
-            3 => used + key,
-            4 => STORE,
-            _ => used + 50 + random.below(300) as usize,
+        let length = match random.below(8) {
+            0 => used,
+            1 => used + key - 1,
+            2 => used + key,
+            _ => STORE,
         };
-        self.nodes[at].lend(size.min(STORE));
+        self.node(at).lend(length.max(used));
+    }
+
+    /// A key of set R1, read as it is or with a bit turned over.
+    fn key(&mut self, random: &mut Xorshift, at: usize) {
+        let dot = (self.actor(random), self.counter(random));
+        let mut key = key(self.label(random), dot);
+        if random.chance(50) {
+            let place = random.below(key.len() as u64) as usize;
+            key[place] ^= 1 << random.below(8);
+        }
+        self.node(at).read_key(&key);
     }
 
     /// Some message sent before: late or soon, again or never, now and then cut.
-    pub fn deliver(&mut self, random: &mut Xorshift, at: usize) {
+    fn deliver(&mut self, random: &mut Xorshift, at: usize) {
         if self.sent.is_empty() {
             return;
         }
@@ -178,12 +191,12 @@ impl World {
         if random.chance(4) {
             message.truncate(random.below(message.len() as u64) as usize);
         }
-        self.nodes[at].take(&message);
+        self.node(at).take(&message);
     }
 
     /// A message that no controller sent: of a fifth actor, of the controller itself, or of
     /// another set.
-    pub fn stray(&mut self, random: &mut Xorshift, at: usize) {
+    fn stray(&mut self, random: &mut Xorshift, at: usize) {
         let other = NAMES.iter().find(|name| **name != self.name);
         let name = if random.chance(8) {
             other.expect("three names")
@@ -201,11 +214,11 @@ impl World {
         } else {
             remove_message(name, &context)
         };
-        self.nodes[at].take(&message);
+        self.node(at).take(&message);
     }
 
-    /// A message sent before with a byte changed, lost or put in.
-    pub fn garbled(&mut self, random: &mut Xorshift, at: usize) {
+    /// A message sent before with a byte changed, lost or put in: read, and taken in.
+    fn garbled(&mut self, random: &mut Xorshift, at: usize) {
         if self.sent.is_empty() {
             return;
         }
@@ -219,6 +232,23 @@ impl World {
             4 => message.push(0),
             _ => message[place] = random.next() as u8,
         }
-        self.nodes[at].take(&message);
+        self.node(at).read_message(&message);
+        self.node(at).take(&message);
+    }
+
+    /// A controller that is damaged for two calls, which change nothing, and whole again.
+    fn damaged(&mut self, random: &mut Xorshift, at: usize) {
+        let mut node = self.node(at);
+        let (actor, used) = (node.state().actor, node.state().used);
+        let (field, broken, whole) = match random.below(4) {
+            0 => ("actor".to_string(), 17, u64::from(actor)),
+            1 => ("used".to_string(), used + 1, used),
+            2 => ("count".to_string(), 129, node.state().count),
+            _ => (format!("window {actor}"), 2, 0),
+        };
+        node.say(&format!("poke {field} {broken}"));
+        self.deliver(random, at);
+        self.add(random, at);
+        self.node(at).say(&format!("poke {field} {whole}"));
     }
 }

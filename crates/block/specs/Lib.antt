@@ -1,0 +1,2 @@
+-- Block: a state in bytes, and back.
+pub mod Block

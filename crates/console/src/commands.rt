@@ -1,0 +1,33 @@
+// The calls of a controller that write an output, and their answers.
+use crate::parts;
+use crate::print;
+use block::STATE_SIZE;
+
+// Own add. The label has the first bytes of the arguments, and the context the others.
+pub fn add(
+    state: &mut [u8; STATE_SIZE],
+    store: &mut [u8],
+    args: &[u8],
+    label_length: usize,
+    out: &mut [u8],
+) {
+    let label = parts::front(args, label_length);
+    let context = parts::from(args, label_length);
+    let mut written = usize::MAX;
+    let answer = capi::ptl_own_add(state, store, label, context, out, &mut written);
+    print::output(answer as u64, out, written);
+}
+
+pub fn remove(state: &mut [u8; STATE_SIZE], store: &[u8], context: &[u8], out: &mut [u8]) {
+    let mut written = usize::MAX;
+    let answer = capi::ptl_own_remove(state, store, context, out, &mut written);
+    print::output(answer as u64, out, written);
+}
+
+pub fn list(state: &[u8], store: &[u8], out: &mut [u8]) {
+    let mut written = usize::MAX;
+    let mut labels = usize::MAX;
+    let answer = capi::ptl_list(state, store, out, &mut written, &mut labels);
+    print::number(answer as u64);
+    print::output(labels as u64, out, written);
+}

@@ -1,0 +1,300 @@
+-- Taking in: its refusals as the code groups them, and what its acceptance gives the code to go on with. Assumes nothing.
+use Prim.Native.Nat.{ℕ, _≤_}
+use mathlib.Core.Path.{_≡_, refl, sym, ap, subst, _∙_}
+use mathlib.Core.Bool.{Bool, true, false, not, cond, _&&_, _||_}
+use mathlib.Core.Logic.{_⊎_, inl, inr}
+use mathlib.Core.List.{[], _∷_, _++_, append-nil}
+use native.Mathlib.Omega.{arith}
+use lib.Dec.{isEq, eqb}
+use lib.ListN.{length, take, drop}
+use lib.Seq.{length-take-le, drop-length}
+use borrow.Author.Needs.{needs}
+use borrow.Author.Tests.{not-false, not-true, ltb-false, eqb-true, eq-eqb, ne-eqb}
+use Rattle.wire.specs.Lists.{any}
+use Rattle.wire.specs.Bytes.{Bytes, startsWith, compareBytes, partOf}
+use Rattle.wire.proofs.Tests.{both, both-left, both-right, both-ways, pass, decided}
+use Rattle.wire.proofs.Lists.{tie-is}
+use Rattle.wire.proofs.Orders.{bytesLawful}
+use Rattle.wire.proofs.ByteOrder.{starts-itself, starts-split}
+use Rattle.dots.specs.declared.Answer.{Answer}
+use Rattle.dots.specs.declared.Answer.the-variants.{Done, Damaged, OtherSet, OwnAhead, TooFar, TombstoneFull, StoreFull}
+use Rattle.dots.specs.declared.Dot.{Dot}
+use Rattle.dots.specs.Answer.{numberOf, Refusals, firstOf}
+use Rattle.dots.specs.Names.{Name}
+use Rattle.dots.specs.Dots.{contextOk, tombstoneMost}
+use Rattle.dots.specs.Wire.{dotsOf}
+use Rattle.dots.specs.Message.{Message, add, remove, offeredOf}
+use Rattle.dots.proofs.Table.{NoneHolds, none-holds}
+use Rattle.dots.proofs.Rules.{ascending-valid}
+use Rattle.clock.specs.Row.{windowWidth}
+use Rattle.clock.specs.Clock.{rowAt, joinAll, near}
+use Rattle.messages.specs.declared.MessageRead.{MessageRead}
+use Rattle.messages.specs.Message.{addKind, messageOk}
+use Rattle.messages.specs.Read.{nameOf as messageName, messageOf, readRefusals, readAnswer, accepted, noMessage, readOf}
+use Rattle.messages.proofs.Accepted.{Found, found, read-answers}
+use Rattle.store.specs.Valid.{storeMost}
+use Rattle.replica.specs.Machine.{takeIn, apply, effect}
+use Rattle.calls.specs.declared.State.{State}
+use Rattle.calls.specs.declared.Outcome.{Outcome}
+use Rattle.calls.specs.State.{clockModel, nameOf, view, Sized}
+use Rattle.calls.specs.Damage.{damaged}
+use Rattle.calls.specs.Effect.{tombstoneOf, stateOf, storeOf}
+use Rattle.calls.specs.Refusals.{otherSet, ownAhead, tooFar, tombstoneFull, storeFull}
+use Rattle.calls.specs.Calls.{toStore, takeInRefusals, takeInDone, takeInResult}
+use Rattle.calls.specs.Promise.{Leaves}
+use Rattle.steps.specs.Tests.{stateWith, aheadOf, nextTombstone, ContextFits, addLate, removeLate, MayOffer, MayApply, applied}
+use Rattle.judging.specs.Judging.{stateOk, LowPart}
+use Rattle.intake.specs.Work.{takenLate, takenAnswer, MayTakeIn}
+use Rattle.calls.proofs.Clauses.{undamaged, used-fits, store-fits}
+use Rattle.steps.proofs.Performed.{removed-state, removed-store}
+use Rattle.steps.proofs.Answers.{stops, none-of, passes, leaves-refused, leaves-done, state-kept}
+use Rattle.steps.proofs.Adds.{name-length, store-full}
+
+-- ---- refusal 7
+
+-- two lists are equal if one begins with the other and is as long
+same-bytes : (a b : Bytes) → (startsWith a b && eqb (length a) (length b)) ≡ isEq (compareBytes a b)
+same-bytes a b = both-ways (startsWith a b && eqb (length a) (length b)) (isEq (compareBytes a b)) there back
+  where
+    there : (startsWith a b && eqb (length a) (length b)) ≡ true → isEq (compareBytes a b) ≡ true
+    there h =
+        let long : length a ≡ length b = eqb-true (length a) (length b) (both-right (startsWith a b) (eqb (length a) (length b)) h) in
+        let rest : drop (length a) b ≡ [] = ap (λ (n : ℕ). drop n b) long ∙ drop-length b in
+        let same : a ≡ b = sym (append-nil a) ∙ ap (λ (t : Bytes). a ++ t) (sym rest) ∙ starts-split a b (both-left (startsWith a b) (eqb (length a) (length b)) h) in
+        rw (same, bytesLawful .self b)
+
+    back : isEq (compareBytes a b) ≡ true → (startsWith a b && eqb (length a) (length b)) ≡ true
+    back h =
+        let same : a ≡ b = bytesLawful .tie a b (tie-is _ (pass h)) in
+        let whole : startsWith b b ≡ true = subst (λ (t : Bytes). startsWith b t ≡ true) (append-nil b) (starts-itself b []) in
+        rw (same, whole, eq-eqb (length b) (length b) refl)
+
+pub other-set-is : (name given : Bytes) (len : ℕ) (starts : Bool) → len ≤ length name → starts ≡ startsWith given (take len name)
+    → not (starts && eqb (length given) len) ≡ not (isEq (compareBytes given (take len name)))
+other-set-is name given len starts h e =
+    let size : length (take len name) ≡ len = length-take-le len name h in
+    rw (e, ← same-bytes given (take len name), size)
+
+-- ---- the message that was read
+
+none-read : (s : Bytes) → accepted s ≡ false → readOf s ≡ noMessage (readAnswer s)
+unfolding readOf
+none-read s h = rw h
+
+-- the place of its label is small, whatever the bytes are
+pub label-place : (s : Bytes) (r : MessageRead) → r ≡ readOf s → (r .label .at ≤ 4096) × (r .label .len ≤ 4096)
+label-place s r e = by-test (decided (accepted s))
+  where
+    by-test : (accepted s ≡ true) ⊎ (accepted s ≡ false) → (r .label .at ≤ 4096) × (r .label .len ≤ 4096)
+    by-test (inl h) =
+        let f = found s r e (ap numberOf (ap (λ (x : MessageRead). x .answer) e ∙ read-answers s) ∙ eqb-true (numberOf (readAnswer s)) 0 h) in
+        let short = f .short in
+        let within = f .label-within in
+        (omega arith, omega arith)
+    by-test (inr h) = rw (e, none-read s h) (omega arith, omega arith)
+
+module _ (s : Bytes) (r : MessageRead) (f : Found s r) where
+  pub add-read : r .kind ≡ addKind → messageOf s ≡ add (partOf s (r .label)) (r .dot) (dotsOf (partOf s (r .context)))
+  add-read k =
+      sym (f .message)
+      ∙ ap (λ (b : Bool). cond b (add (partOf s (r .label)) (r .dot) (dotsOf (partOf s (r .context)))) (remove (dotsOf (partOf s (r .context))))) (eq-eqb (r .kind) addKind k)
+
+  pub remove-read : (r .kind ≡ addKind → ⊥) → messageOf s ≡ remove (dotsOf (partOf s (r .context)))
+  remove-read k =
+      sym (f .message)
+      ∙ ap (λ (b : Bool). cond b (add (partOf s (r .label)) (r .dot) (dotsOf (partOf s (r .context)))) (remove (dotsOf (partOf s (r .context))))) (ne-eqb (r .kind) addKind k)
+
+  module _ (context : Bytes) (context-is : context ≡ partOf s (r .context)) where
+    pub add-is : (label : Bytes) → r .kind ≡ addKind → label ≡ partOf s (r .label) → messageOf s ≡ add label (r .dot) (dotsOf context)
+    add-is label k e = add-read k ∙ rw (e, context-is)
+
+    pub remove-is : (r .kind ≡ addKind → ⊥) → messageOf s ≡ remove (dotsOf context)
+    remove-is k = remove-read k ∙ rw context-is
+
+    rules-of : (m : Message) → messageOf s ≡ m → messageOk (messageName s) m ≡ true
+    rules-of m e = subst (λ (x : Message). messageOk (messageName s) x ≡ true) e (f .rules)
+
+    context-ok : contextOk (dotsOf context) ≡ true → ContextFits context
+    context-ok ok = record { whole = rw context-is (f .whole .0); short = rw context-is (f .whole .1); ascends = search both }
+
+    -- an add's fields keep their rules
+    pub offered : (st : State) (label : Bytes) → stateOk st ≡ true → st .used ≤ storeMost → r .kind ≡ addKind → label ≡ partOf s (r .label) → MayOffer st label context (r .dot)
+    unfolding messageOk
+    offered st label ok small k e =
+        let rules = rules-of (add label (r .dot) (dotsOf context)) (add-is label k e) in
+        record {
+          state-ok = ok;
+          small = small;
+          labelled = search both;
+          fits = context-ok (search both);
+          dot-ok = search both;
+          new = not-true _ (search both);
+        }
+
+    pub removed : (r .kind ≡ addKind → ⊥) → ContextFits context
+    unfolding messageOk
+    removed k =
+        let rules = rules-of (remove (dotsOf context)) (remove-is k) in
+        context-ok (search both)
+
+    -- the later refusals of its parts are those of the message
+    module _ (st : State) (size : ℕ) (given : Bytes) (given-is : given ≡ partOf s (r .name)) (q : Answer) where
+      pub late-add : (label : Bytes) → r .kind ≡ addKind → label ≡ partOf s (r .label) → q ≡ firstOf (takenLate st size given (add label (r .dot) (dotsOf context)))
+          → q ≡ firstOf (takenLate st size (messageName s) (messageOf s))
+      late-add label k e h = h ∙ rw (given-is, f .name, add-is label k e)
+
+      pub late-remove : (r .kind ≡ addKind → ⊥) → q ≡ firstOf (takenLate st 0 given (remove (dotsOf context))) → q ≡ firstOf (takenLate st size (messageName s) (messageOf s))
+      late-remove k h = h ∙ rw (given-is, f .name, remove-is k)
+
+-- ---- the table
+
+module _ (st : State) (store : Bytes) where
+  abbrev rest : Name → Message → Refusals
+  rest name m =
+      (otherSet st store name, OtherSet) ∷ (ownAhead st store (offeredOf m), OwnAhead) ∷ (tooFar st store (offeredOf m), TooFar) ∷ (tombstoneFull st store (takeIn m), TombstoneFull)
+      ∷ (storeFull st store (toStore (view st store) m), StoreFull) ∷ []
+
+  late-is : length (nameOf st) ≡ st .name .len → (name : Name) (m : Message) → firstOf (takenLate st (length store) name m) ≡ firstOf (rest name m)
+  unfolding effect apply any view
+  late-is named name (add label d context) = rw (← store-full st store label d named)
+  late-is named name (remove context) = refl
+
+module _ (st : State) (store message : Bytes) (read : MessageRead) (read-is : read ≡ readOf message) where
+  abbrev front : Refusals
+  front = (damaged st store, Damaged) ∷ readRefusals message
+
+  module _ (damage : Bool) (r : Answer) (k : ℕ) (damage-is : damage ≡ damaged st store) (first-is : r ≡ cond damage Damaged (read .answer)) (numbered : k ≡ numberOf r) where
+    front-is : r ≡ firstOf front
+    unfolding readAnswer
+    front-is = first-is ∙ rw (damage-is, read-is, read-answers message)
+
+    pub take-refused : (k ≡ 0 → ⊥) → r ≡ firstOf (takeInRefusals st store message)
+    take-refused t = stops front r k front-is numbered (rest st store (messageName message) (messageOf message)) t
+
+    module _ (t : k ≡ 0) where
+      whole : damaged st store ≡ false
+      whole = none-of front r k front-is numbered (search needs) t .0
+
+      pub take-kept : (stateOk st ≡ true) × (st .used ≤ storeMost) × Found message read
+      take-kept =
+          let u = undamaged st store whole in
+          let fits = used-fits st store u in
+          let most = store-fits st store u in
+          let accepts : numberOf (read .answer) ≡ 0 = rw (damage-is, whole) at (sym (numbered ∙ ap numberOf first-is) ∙ t) in
+          (state-kept st store whole, omega arith, found message read read-is accepts)
+
+      pub take-passed : Sized st → (q : Answer) → q ≡ firstOf (takenLate st (length store) (messageName message) (messageOf message)) → q ≡ firstOf (takeInRefusals st store message)
+      take-passed size q h = passes front r k front-is numbered (rest st store (messageName message) (messageOf message)) q (search needs) t (h ∙ late-is st store (name-length st size (take-kept .0)) (messageName message) (messageOf message))
+
+  -- ---- what is left
+
+  module _ (a : Answer) (k : ℕ) (answered : a ≡ firstOf (takeInRefusals st store message)) (numbered : k ≡ numberOf a) where
+    pub take-in-refused : (k ≡ 0 → ⊥) → Leaves (takeInResult st store message) store [] (record { answer = a; state = st; written = 0 })
+    unfolding takeInResult
+    take-in-refused h = leaves-refused st store [] (takeInRefusals st store message) (takeInDone st store message) a k answered numbered h
+
+    module _ (z : k ≡ 0) where
+      none-refuses : NoneHolds (takeInRefusals st store message)
+      none-refuses = none-of (takeInRefusals st store message) a k answered numbered (search needs) z
+
+      pub take-whole : damaged st store ≡ false
+      take-whole = none-refuses .0
+
+      pub may-take-in : Sized st → (low : ℕ) → LowPart st store (partOf message (read .label)) low → MayTakeIn st store message read low
+      unfolding readAnswer
+      may-take-in size low front =
+          let n = none-refuses in
+          let m = n .1 .1 .1 .1 .1 .1 in
+          let accepts : numberOf (readAnswer message) ≡ 0 = rw (n .1 .0, n .1 .1 .0, n .1 .1 .1 .0, n .1 .1 .1 .1 .0, n .1 .1 .1 .1 .1 .0) refl in
+          let none : numberOf (firstOf (rest st store (messageName message) (messageOf message))) ≡ 0 = rw (m .0, m .1 .0, m .1 .1 .0, m .1 .1 .1 .0, m .1 .1 .1 .1 .0) refl in
+          record {
+            whole = n .0;
+            found = found message read read-is (ap numberOf (ap (λ (x : MessageRead). x .answer) read-is ∙ read-answers message) ∙ accepts);
+            passed = ap numberOf (late-is st store (name-length st size (state-kept st store (n .0))) (messageName message) (messageOf message)) ∙ none;
+            sized = size;
+            front = front;
+          }
+
+      pub take-in-done : (next : State) (store′ : Bytes)
+          → (next ≡ stateOf st (effect clockModel (view st store) (takeIn (messageOf message)))) × (store′ ≡ storeOf st store (effect clockModel (view st store) (takeIn (messageOf message))))
+          → (r : Outcome) → r .answer ≡ Done → r .state ≡ next → r .written ≡ 0 → Leaves (takeInResult st store message) store′ [] r
+      unfolding takeInResult
+      take-in-done next store′ left r e f g =
+          leaves-done st store [] (takeInRefusals st store message) (takeInDone st store message) a k answered numbered z store′ [] r
+          (record { answered = e; state-is = f ∙ left .0; written-is = g; store-is = left .1; out-is = refl })
+
+-- ---- the work
+
+module _ (st : State) (store s : Bytes) (r : MessageRead) (low : ℕ) (m : MayTakeIn st store s r low) (context : Bytes) (context-is : context ≡ partOf s (r .context)) where
+  small : st .used ≤ storeMost
+  small =
+      let u = undamaged st store (m .whole) in
+      let fits = used-fits st store u in
+      let most = store-fits st store u in
+      omega arith
+
+  module _ (label : Bytes) (k : r .kind ≡ addKind) (e : label ≡ partOf s (r .label)) where
+    message-is : messageOf s ≡ add label (r .dot) (dotsOf context)
+    message-is = add-is s r (m .found) context context-is label k e
+
+    pub take-applies : MayApply st store label context (r .dot)
+    take-applies =
+        let o = offered s r (m .found) context context-is st label (state-kept st store (m .whole)) small k e in
+        let passed : numberOf (firstOf (takenLate st (length store) (messageName s) (add label (r .dot) (dotsOf context)))) ≡ 0 = rw message-is at (m .passed) in
+        let n = none-holds (takenLate st (length store) (messageName s) (add label (r .dot) (dotsOf context))) (search needs) passed in
+        record {
+          whole = m .whole;
+          joins = record {
+            state-ok = o .state-ok;
+            fits = o .fits;
+            dot-ok = o .dot-ok;
+            new = o .new;
+            close = not-false _ (n .1 .1 .0);
+            few = ltb-false _ _ (n .1 .1 .1 .0);
+          };
+          labelled = o .labelled;
+          room-for = λ f. ltb-false _ _ (rw f at (n .1 .1 .1 .1 .0));
+          sized = m .sized;
+        }
+
+    pub take-low : LowPart st store label low
+    take-low = rw e (m .front)
+
+    pub add-taken : (next : State) (store′ : Bytes)
+        → (next ≡ stateOf st (applied st store label (dotsOf context) (r .dot))) × (store′ ≡ storeOf st store (applied st store label (dotsOf context) (r .dot)))
+        → (next ≡ stateOf st (effect clockModel (view st store) (takeIn (messageOf s)))) × (store′ ≡ storeOf st store (effect clockModel (view st store) (takeIn (messageOf s))))
+    unfolding effect
+    add-taken next store′ left = rw message-is left
+
+  module _ (k : r .kind ≡ addKind → ⊥) where
+    message-removes : messageOf s ≡ remove (dotsOf context)
+    message-removes = remove-is s r (m .found) context context-is k
+
+    pub take-removes : (stateOk st ≡ true) × ContextFits context × (near windowWidth (st .clock .words) (dotsOf context) ≡ true) × (length (nextTombstone st (dotsOf context)) ≤ tombstoneMost)
+    take-removes =
+        let passed : numberOf (firstOf (takenLate st (length store) (messageName s) (remove (dotsOf context)))) ≡ 0 = rw message-removes at (m .passed) in
+        let n = none-holds (takenLate st (length store) (messageName s) (remove (dotsOf context))) (search needs) passed in
+        (state-kept st store (m .whole), removed s r (m .found) context context-is k, not-false _ (n .1 .1 .0), ltb-false _ _ (n .1 .1 .1 .0))
+
+    pub remove-taken : (next : State) → next ≡ stateWith st (joinAll windowWidth (st .clock .words) (dotsOf context)) (tombstoneOf (nextTombstone st (dotsOf context))) (st .used)
+        → (next ≡ stateOf st (effect clockModel (view st store) (takeIn (messageOf s)))) × (store ≡ storeOf st store (effect clockModel (view st store) (takeIn (messageOf s))))
+    unfolding effect
+    remove-taken next left =
+        let u = undamaged st store (m .whole) in
+        let t = take-removes in
+        let ok = ascending-valid (dotsOf context) (t .1 .ascends) in
+        rw message-removes
+        (left ∙ removed-state st store u (m .sized .words-size) (dotsOf context) ok (t .2), sym (removed-store st store u (m .sized .words-size) (dotsOf context) ok (t .2)))
+
+-- ---- the tests, as the code makes them
+
+module _ (st : State) (given context : Bytes) (base : ℕ) (base-is : base ≡ rowAt (st .clock .words) (st .actor .number) .base) where
+  pub add-judged : (size : ℕ) (label : Bytes) (d : Dot) (other dot-ahead ahead : Bool) (late r : Answer) → other ≡ not (isEq (compareBytes given (nameOf st)))
+      → dot-ahead ≡ aheadOf (st .actor) base d → ahead ≡ any (aheadOf (st .actor) base) (dotsOf context) → late ≡ firstOf (addLate st size label d (dotsOf context) false)
+      → r ≡ takenAnswer other (dot-ahead || ahead) late → r ≡ firstOf (takenLate st size given (add label d (dotsOf context)))
+  unfolding any
+  add-judged size label d other dot-ahead ahead late r e f g h i = i ∙ rw (e, f, g, h, base-is)
+
+  pub remove-judged : (other ahead : Bool) (late r : Answer) → other ≡ not (isEq (compareBytes given (nameOf st))) → ahead ≡ any (aheadOf (st .actor) base) (dotsOf context)
+      → late ≡ firstOf (removeLate st (dotsOf context) false) → r ≡ takenAnswer other ahead late → r ≡ firstOf (takenLate st 0 given (remove (dotsOf context)))
+  remove-judged other ahead late r e g h i = i ∙ rw (e, g, h, base-is)

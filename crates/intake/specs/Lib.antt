@@ -1,0 +1,2 @@
+-- Work: what taking in tests and counts on.
+pub mod Work

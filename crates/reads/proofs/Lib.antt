@@ -1,0 +1,2 @@
+-- ReadCalls: listing and lookup of an undamaged state.
+pub mod ReadCalls

@@ -1,0 +1,225 @@
+-- Listing and lookup: what they may count on in an undamaged state, and what they then give. Assumes nothing.
+use Prim.Native.Nat.{ℕ, _+_, _-_, _≤_}
+use denote.Ref.{RefT}
+use mathlib.Core.Path.{_≡_, refl, sym, ap, _∙_}
+use mathlib.Core.Bool.{Bool, true, false, not, cond}
+use mathlib.Core.List.{List, [], _∷_}
+use native.Mathlib.Omega.{arith}
+use lib.Dec.{eqb, isEq}
+use lib.ListN.{length, take, drop, length-drop}
+use lib.Seq.{length-take-le, take-take}
+use borrow.Author.Tests.{leb-true, ne-eqb}
+use Rattle.wire.specs.Lists.{consIf, keep, any, all, member}
+use Rattle.wire.specs.Bytes.{Bytes, compareBytes, partAt, startsWith, IsPart}
+use Rattle.wire.proofs.Tests.{both, both-ways, pass}
+use Rattle.wire.proofs.Lists.{tie-is, keep-member, all-member, member-all}
+use Rattle.wire.proofs.Orders.{bytesLawful}
+use Rattle.wire.proofs.Parts.{drop-take}
+use Rattle.dots.specs.Answer.{numberOf, firstOf}
+use Rattle.dots.specs.declared.Answer.{Answer}
+use Rattle.dots.specs.declared.Answer.the-variants.{Done, Damaged, BadName, OutputShort}
+use Rattle.dots.specs.Names.{Name, Label, labelOk, nameMost}
+use Rattle.dots.specs.Dots.{compareDots, ascendingDots, tombstoneMost}
+use Rattle.dots.specs.Entries.{Entry, Line}
+use Rattle.keys.specs.Entry.{entryOk}
+use Rattle.store.specs.Cut.{storeBytes, keysOf, entriesIn}
+use Rattle.store.specs.Valid.{keysFit}
+use Rattle.store.specs.Place.{lengthWhile, lowerThan, placeIn, labelStart, stretchStart, stretchEnd}
+use Rattle.listing.specs.Listing.{listingBytes}
+use Rattle.store.proofs.Cut.{endToEnd-keysOf}
+use Rattle.store.proofs.Inserted.{while-within}
+use Rattle.store.proofs.RoundTrip.{UsedEntries, keys-fit, entries-written}
+use Rattle.store.proofs.Stretches.{stretch-start, stretch-end, stretch-bytes}
+use Rattle.replica.specs.Machine.{listing, found}
+use Rattle.calls.specs.declared.State.{State}
+use Rattle.calls.specs.declared.Listed.{Listed}
+use Rattle.calls.specs.State.{clockModel, nameOf, tombstoneDots, usedPart, entries, view, Sized}
+use Rattle.calls.specs.Damage.{stateNameOk, tombstoneOk, damaged}
+use Rattle.calls.specs.Effect.{putOut}
+use Rattle.calls.specs.Refusals.{badLabel, outputShort}
+use Rattle.steps.specs.Tests.{earlyRefusals}
+use Rattle.calls.specs.Calls.{refused, listResult, Looked, notLooked, lowerLabels, sameLabel, bytesOf, lookupRefusals, lookupDone, lookupResult}
+use Rattle.calls.specs.Promise.{Lists, LooksUp}
+use Rattle.reads.specs.Reads.{Readable, linesIn, ListsLines}
+use Rattle.calls.proofs.Clauses.{undamaged, used-fits, store-fits, entries-of}
+
+-- ---- what they count on
+
+pub name-most : (st : State) (store : Bytes) → damaged st store ≡ false → st .name .len ≤ nameMost
+unfolding stateNameOk
+name-most st store f = let n = undamaged st store f .name in leb-true (st .name .len) nameMost (search both)
+
+pub name-size : (st : State) (store : Bytes) → Sized st → damaged st store ≡ false → length (nameOf st) ≡ st .name .len
+name-size st store sized f = let size = sized .name-size in length-take-le (st .name .len) (st .name .bytes) (omega (arith, name-most st store f))
+
+pub tombstone-most : (st : State) (store : Bytes) → damaged st store ≡ false → st .tombstone .count ≤ tombstoneMost
+unfolding tombstoneOk
+tombstone-most st store f = let t = undamaged st store f .tombstone in leb-true (st .tombstone .count) tombstoneMost (search both)
+
+pub tombstone-ascends : (st : State) (store : Bytes) → damaged st store ≡ false → ascendingDots (tombstoneDots st) ≡ true
+unfolding tombstoneOk
+tombstone-ascends st store f = let t = undamaged st store f .tombstone in search both
+
+pub readable : (st : State) (store : Bytes) → Sized st → damaged st store ≡ false
+    → Readable (st .name .len) (st .used) (st .tombstone .count) store (st .tombstone .bytes)
+readable st store sized f =
+    let u = undamaged st store f in
+    record {
+      short-name = name-most st store f;
+      used-fits = used-fits st store u;
+      store-fits = store-fits st store u;
+      keys-fit = rw (name-size st store sized f) at (entries-of st store u .fit);
+      tomb = record { size = sized .tombstone-size; few = tombstone-most st store f; ascends = tombstone-ascends st store f };
+    }
+
+-- ---- listing
+
+pub damaged-listing : (st : State) (store out : Bytes) → damaged st store ≡ true → Lists (listResult st store out) out (record { answer = Damaged; written = 0; labels = 0 })
+unfolding listResult
+damaged-listing st store out d = rw d (record { answered = refl; written-is = refl; labels-are = refl; out-is = refl })
+
+-- the answer of refusal 13, and what goes with it
+lists-or-short : (st : State) (store out out′ : Bytes) (ls : List Line) (r : Listed) (short : Bool)
+    → r .answer ≡ cond short OutputShort Done → r .written ≡ cond short 0 (length (listingBytes ls)) → r .labels ≡ cond short 0 (length ls)
+    → out′ ≡ cond short out (putOut (listingBytes ls) out)
+    → Lists (cond (eqb (numberOf (cond short OutputShort Done)) 0) (record { answer = Done; state = st; store = store; out = putOut (listingBytes ls) out; written = length (listingBytes ls); labels = length ls })
+    (refused st store out (cond short OutputShort Done))) out′ r
+lists-or-short st store out out′ ls r true a w l o = record { answered = a; written-is = w; labels-are = l; out-is = o }
+lists-or-short st store out out′ ls r false a w l o = record { answered = a; written-is = w; labels-are = l; out-is = o }
+
+pub undamaged-listing : (st : State) (store out out′ : Bytes) (r : Listed) → Sized st → damaged st store ≡ false
+    → ListsLines (linesIn (st .name .len) (st .used) (st .tombstone .count) store (st .tombstone .bytes)) out out′ r
+    → Lists (listResult st store out) out′ r
+unfolding listResult listing view
+undamaged-listing st store out out′ r named f l =
+    let ls : List Line = linesIn (st .name .len) (st .used) (st .tombstone .count) store (st .tombstone .bytes) in
+    rw (f, name-size st store named f)
+    (lists-or-short st store out out′ ls r (outputShort out (listingBytes ls)) (l .answered) (l .written-is) (l .labels-are) (l .out-is))
+
+-- ---- lookup
+
+-- some pass a test of those that pass another, or the other way round
+any-swap : {A : Type 0} (p p′ q : A → Bool) → ((x : A) → p x ≡ p′ x) → (xs : List A) → any p (keep q xs) ≡ any q (keep p′ xs)
+unfolding any keep
+any-swap p p′ q same [] = refl
+any-swap {A} p p′ q same (x ∷ xs) = by-tests (p′ x) (q x) (same x) refl (any-swap p p′ q same xs)
+  where
+    by-tests : (a b : Bool) → p x ≡ a → q x ≡ b → any p (keep q xs) ≡ any q (keep p′ xs) → any p (consIf b x (keep q xs)) ≡ any q (consIf a x (keep p′ xs))
+    by-tests true true e f rest = rw (e, f)
+    by-tests true false e f rest = rw f rest
+    by-tests false true e f rest = rw e rest
+    by-tests false false e f rest = rest
+
+same-turned : (a b : Bytes) → isEq (compareBytes a b) ≡ isEq (compareBytes b a)
+same-turned a b = both-ways (isEq (compareBytes a b)) (isEq (compareBytes b a)) (turned a b) (turned b a)
+  where
+    turned : (x y : Bytes) → isEq (compareBytes x y) ≡ true → isEq (compareBytes y x) ≡ true
+    turned x y t = let e : x ≡ y = bytesLawful .tie x y (tie-is (compareBytes x y) (pass t)) in rw (e, bytesLawful .self y)
+
+-- where the stretch ends
+pub stretch-within : (name : Name) (label : Label) (bytes : Bytes) → (stretchStart name label bytes ≤ stretchEnd name label bytes) × (stretchEnd name label bytes ≤ length bytes)
+unfolding stretchEnd stretchStart
+stretch-within name label bytes =
+    let start = labelStart name label in
+    let n = length name in
+    let at : ℕ = placeIn start (keysOf n bytes) in
+    let before : at ≤ length bytes = rw endToEnd-keysOf at (while-within (lowerThan start) (keysOf n bytes)) in
+    let after : lengthWhile (startsWith start) (keysOf n (drop at bytes)) ≤ length (drop at bytes) = rw endToEnd-keysOf at (while-within (startsWith start) (keysOf n (drop at bytes))) in
+    (omega arith, omega (arith, length-drop at bytes))
+
+-- a part of a front is a part of the whole
+pub part-of-front : (s : Bytes) (used start end : ℕ) → end ≤ used → partAt (take used s) start (end - start) ≡ partAt s start (end - start)
+part-of-front s used start end h = rw (drop-take start used s) (take-take (end - start) (used - start) (drop start s) (omega arith))
+
+-- the stretch of the used part is one of the store
+pub part-of-store : (store r : RefT Bytes) (name : Name) (label : Label) (used : ℕ) → used ≤ length (store .now)
+    → r .ptr .0 ≡ store .ptr .0 → r .ptr .1 ≡ store .ptr .1 + stretchStart name label (take used (store .now))
+    → r .now ≡ partAt (take used (store .now)) (stretchStart name label (take used (store .now))) (stretchEnd name label (take used (store .now)) - stretchStart name label (take used (store .now)))
+    → IsPart store (stretchStart name label (take used (store .now))) (stretchEnd name label (take used (store .now))) r
+part-of-store store r name label used h block offset bytes =
+    let front : Bytes = take used (store .now) in
+    let fits : stretchEnd name label front ≤ used = omega (arith, stretch-within name label front, length-take-le used (store .now) h) in
+    record { block = block; offset = offset; bytes = bytes ∙ part-of-front (store .now) used (stretchStart name label front) (stretchEnd name label front) fits }
+
+-- the tests of a lookup that passes
+-- the refusals of a lookup as the code tests them
+pub look-is : (st : State) (store label : Bytes) (damage : Bool) (number : ℕ) → damage ≡ damaged st store → number ≡ numberOf (firstOf (earlyRefusals damage (badLabel label) false false false))
+    → number ≡ numberOf (firstOf (lookupRefusals st store label))
+look-is st store label damage number d n = rw d at n
+
+pub may-look : (st : State) (store label : Bytes) (number : ℕ) → number ≡ numberOf (firstOf (lookupRefusals st store label)) → number ≡ 0 → (damaged st store ≡ false) × (labelOk label ≡ true)
+may-look st store label number n z = by-tests (damaged st store) (labelOk label) (sym n ∙ z)
+  where
+    by-tests : (damage labelled : Bool) → numberOf (cond damage Damaged (cond (not labelled) BadName Done)) ≡ 0 → (damage ≡ false) × (labelled ≡ true)
+    by-tests false true e = (refl, refl)
+    by-tests false false e = let none : ⊥ = omega arith in absurd none
+    by-tests true labelled e = let none : ⊥ = omega arith in absurd none
+
+pub not-looked : (st : State) (store r : RefT Bytes) (label : Bytes) (number : ℕ) → number ≡ numberOf (firstOf (lookupRefusals st (store .now) label)) → (number ≡ 0 → ⊥) → IsPart store 0 0 r
+    → LooksUp st store label number false r
+unfolding lookupResult
+not-looked st store r label number n z part =
+    let answer : Answer = firstOf (lookupRefusals st (store .now) label) in
+    let is : lookupResult st (store .now) label ≡ notLooked answer = rw (ne-eqb (numberOf answer) 0 (λ e. z (n ∙ e))) in
+    record {
+      answered = n ∙ sym (ap (λ (x : Looked). numberOf (x .answer)) is);
+      listed-is = sym (ap (λ (x : Looked). x .listed) is);
+      stretch-is = rw is part;
+    }
+
+module _ (st : State) (store : Bytes) (label : Label) (f : damaged st store ≡ false) (ok : labelOk label ≡ true) where
+  held : UsedEntries (nameOf st) (st .clock .words) (usedPart st store) (entries st store)
+  held = entries-of st store (undamaged st store f)
+
+  start-is : stretchStart (nameOf st) label (usedPart st store) ≡ bytesOf st store label (lowerLabels st store label)
+  start-is = ap (stretchStart (nameOf st) label) (sym (held .written)) ∙ stretch-start label (nameOf st) ok (entries st store) (held .valid) (held .ascend)
+
+  end-is : stretchEnd (nameOf st) label (usedPart st store) ≡ bytesOf st store label (lowerLabels st store label) + bytesOf st store label (sameLabel st store label)
+  end-is =
+      ap (stretchEnd (nameOf st) label) (sym (held .written))
+      ∙ stretch-end label (nameOf st) ok (entries st store) (held .valid) (held .ascend)
+      ∙ ap (λ (n : ℕ). n + bytesOf st store label (sameLabel st store label)) (stretch-start label (nameOf st) ok (entries st store) (held .valid) (held .ascend))
+
+  same-valid : all entryOk (sameLabel st store label) ≡ true
+  same-valid = member-all entryOk (sameLabel st store label) (λ e m. all-member entryOk (entries st store) (held .valid) e (keep-member (λ (x : Entry). isEq (compareBytes (x .label) label)) (entries st store) m .0))
+
+  looked-is : lookupResult st store label ≡ lookupDone st store label
+  unfolding lookupResult
+  looked-is = rw (f, ok)
+
+  -- the stretch holds the label's keys
+  module _ (n : ℕ) (bytes : Bytes) (named : n ≡ length (nameOf st))
+      (part : bytes ≡ partAt store (stretchStart (nameOf st) label (usedPart st store)) (stretchEnd (nameOf st) label (usedPart st store) - stretchStart (nameOf st) label (usedPart st store))) where
+    stretch-holds : bytes ≡ storeBytes (nameOf st) (sameLabel st store label)
+    stretch-holds =
+        let a : ℕ = stretchStart (nameOf st) label (usedPart st store) in
+        let e : ℕ = stretchEnd (nameOf st) label (usedPart st store) in
+        let fits : e ≤ st .used = omega (arith, stretch-within (nameOf st) label (usedPart st store), length-take-le (st .used) store (used-fits st store (undamaged st store f))) in
+        let whole : partAt (usedPart st store) a (e - a) ≡ storeBytes (nameOf st) (sameLabel st store label) =
+        rw (held .written) at (stretch-bytes label (nameOf st) ok (entries st store) (held .valid) (held .ascend)) in
+        part ∙ sym (part-of-front store (st .used) a e fits) ∙ whole
+
+    pub stretch-fits : keysFit n bytes ≡ true
+    stretch-fits = rw (named, stretch-holds) (keys-fit (nameOf st) (sameLabel st store label) same-valid)
+
+    -- some key is live if the listing has the label
+    found-live : any (λ (e : Entry). not (member compareDots (e .dot) (tombstoneDots st))) (entriesIn n bytes) ≡ found clockModel (view st store) label
+    unfolding found view
+    found-live =
+        rw (named, stretch-holds, entries-written (nameOf st) (sameLabel st store label) same-valid)
+        (sym (any-swap (λ (e : Entry). isEq (compareBytes label (e .label))) (λ (e : Entry). isEq (compareBytes (e .label) label)) (λ (e : Entry). not (member compareDots (e .dot) (tombstoneDots st))) (λ (e : Entry). same-turned label (e .label)) (entries st store)))
+
+pub looked : (st : State) (store r : RefT Bytes) (label : Bytes) (number : ℕ) (listed : Bool) → Sized st → damaged st (store .now) ≡ false → labelOk label ≡ true → number ≡ 0
+    → IsPart store (stretchStart (nameOf st) label (usedPart st (store .now))) (stretchEnd (nameOf st) label (usedPart st (store .now))) r
+    → listed ≡ any (λ (e : Entry). not (member compareDots (e .dot) (tombstoneDots st))) (entriesIn (st .name .len) (r .now))
+    → LooksUp st store label number listed r
+looked st store r label number listed named f ok z part l =
+    let s : Bytes = store .now in
+    let is : lookupResult st s label ≡ lookupDone st s label = looked-is st s label f ok in
+    let stretch : IsPart store (bytesOf st s label (lowerLabels st s label)) (bytesOf st s label (lowerLabels st s label) + bytesOf st s label (sameLabel st s label)) r =
+    rw (end-is st s label f ok, start-is st s label f ok) at part in
+    record {
+      answered = z ∙ sym (ap (λ (x : Looked). numberOf (x .answer)) is);
+      listed-is = l ∙ found-live st s label f ok (st .name .len) (r .now) (sym (name-size st s named f)) (part .bytes) ∙ sym (ap (λ (x : Looked). x .listed) is);
+      stretch-is = rw is stretch;
+    }

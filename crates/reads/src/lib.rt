@@ -1,0 +1,158 @@
+// The calls that only read: listing and lookup.
+ghost use mathlib.Core.Path.{_≡_};
+ghost use mathlib.Core.Bool.{true, not, false};
+ghost use mathlib.Core.List.{_++_};
+ghost use Prim.Native.Nat.{_*_, _≤_};
+ghost use lib.ListN.{length, take};
+ghost use Rattle.wire.specs.Lists.{any, member};
+ghost use Rattle.dots.specs.Answer.{firstOf, numberOf};
+ghost use Rattle.dots.specs.Names.{nameOk, labelOk, nameMost};
+ghost use Rattle.dots.specs.Dots.{compareDots, ascendingDots, tombstoneMost};
+ghost use Rattle.dots.specs.Wire.{dotsOf, dotSize};
+ghost use Rattle.dots.specs.Entries.{Entry};
+ghost use Rattle.store.specs.Place.{stretchStart, stretchEnd, Passed};
+ghost use Rattle.keys.specs.Entry.{prefix};
+ghost use Rattle.store.specs.Valid.{storeMost, keysFit};
+ghost use Rattle.steps.specs.Tests.{earlyRefusals};
+ghost use Rattle.calls.specs.Refusals.{badLabel};
+ghost use Rattle.calls.specs.Calls.{listResult};
+ghost use Rattle.calls.specs.Promise.{Lists, LooksUp};
+ghost use Rattle.wire.specs.Bytes.{IsPart};
+ghost use Rattle.store.specs.Cut.{entriesIn};
+ghost use Rattle.listing.specs.Listing.{linesOfLive};
+ghost use Rattle.reads.specs.Reads.{Readable, linesIn, ListsLines};
+
+// ---- listing
+
+// Lists keys end to end: refusal 13, or their lines put out.
+fn list_keys(n: usize, keys: &[u8], tombstone: &[u8], out: &mut [u8]) -> calls::Listed
+    requires { ⌜ (n ≤ nameMost) × (length (now keys) ≤ storeMost) × (keysFit n (now keys) ≡ true) × (ascendingDots (dotsOf (now tombstone)) ≡ true) ⌝ }
+    ensures { λ r. ⌜ ListsLines (linesOfLive (dotsOf (now (tombstone .entry))) (entriesIn n (now (keys .entry)))) (now (out .entry)) (now (out .exit)) r ⌝ }
+{
+    let mut slots = [0u8; slots::SLOTS];
+    slots::fill_slots(tombstone, &mut slots);
+    if out.len() < keys.len() {
+        let size = listing::listing_size(n, keys, tombstone, &slots);
+        if out.len() < size.bytes {
+            return calls::Listed {
+                answer: dots::Answer::OutputShort,
+                written: 0,
+                labels: 0,
+            };
+        }
+    }
+    let size = listing::write_listing(n, keys, tombstone, &slots, out);
+    calls::Listed {
+        answer: dots::Answer::Done,
+        written: size.bytes,
+        labels: size.labels,
+    }
+}
+
+// Lists the used part of a store, with the first count dots of a tombstone.
+fn list_used(
+    n: usize,
+    store: &[u8],
+    used: usize,
+    tombstone: &[u8],
+    count: usize,
+    out: &mut [u8],
+) -> calls::Listed
+    requires { ⌜ Readable n used count (now store) (now tombstone) ⌝ }
+    ensures { λ r. ⌜ ListsLines (linesIn n used count (now (store .entry)) (now (tombstone .entry))) (now (out .entry)) (now (out .exit)) r ⌝ }
+{
+    let size = count * dots::DOT_SIZE;
+    list_keys(n, &store[..used], &tombstone[..size], out)
+}
+
+// Lists the labels.
+pub fn list(state: calls::State, store: &[u8], out: &mut [u8]) -> calls::Listed
+    ensures { λ r. ⌜ Lists (listResult state (now (store .entry)) (now (out .entry))) (now (out .exit)) r ⌝ }
+{
+    let head = judging::head_of(state);
+    if judging::damaged(head, &state.clock.words, &state.tombstone.bytes, store) {
+        return calls::Listed {
+            answer: dots::Answer::Damaged,
+            written: 0,
+            labels: 0,
+        };
+    }
+    let tombstone = state.tombstone.bytes;
+    let n = state.name.len;
+    let used = state.used;
+    let count = state.tombstone.count;
+    list_used(n, store, used, &tombstone, count, out)
+}
+
+// ---- lookup
+
+// The stretch of a label's keys in the used part of a store, past its first `low` bytes, for a set whose name is the first len bytes.
+fn used_stretch<'a, 'b>(
+    store: &'a [u8],
+    used: usize,
+    name: &'b [u8],
+    len: usize,
+    label: &'b [u8],
+    low: usize,
+) -> &'a [u8]
+    requires { ⌜ (used ≤ length (now store)) × (len ≤ length (now name)) × (nameOk (take len (now name)) ≡ true) × (labelOk (now label) ≡ true) × Passed (length (take len (now name))) (prefix (take len (now name)) ++ now label) (take used (now store)) low ⌝ }
+    ensures { λ r. ⌜ IsPart (store .entry) (stretchStart (take len (now (name .entry))) (now (label .entry)) (take used (now (store .entry)))) (stretchEnd (take len (now (name .entry))) (now (label .entry)) (take used (now (store .entry)))) r ⌝ }
+{
+    store::stretch(&store[..used], &name[..len], label, low)
+}
+
+// Whether some key's dot is not in the tombstone.
+fn any_listed(n: usize, keys: &[u8], tombstone: calls::Tombstone) -> bool
+    requires { ⌜ (n ≤ nameMost) × (keysFit n (now keys) ≡ true) × (tombstone .count ≤ tombstoneMost) × (ascendingDots (dotsOf (take (tombstone .count * dotSize) (tombstone .bytes))) ≡ true) ⌝ }
+    ensures { λ r. ⌜ r ≡ any (λ (e : Entry). not (member compareDots (e .dot) (dotsOf (take (tombstone .count * dotSize) (tombstone .bytes))))) (entriesIn n (now (keys .entry))) ⌝ }
+{
+    let bytes = tombstone.bytes;
+    let size = tombstone.count * dots::DOT_SIZE;
+    listing::any_live(n, keys, &bytes[..size])
+}
+
+// The number of the first refusal of a lookup that holds, else 0. `damage` is refusal 1.
+fn lookup_number(damage: bool, label: &[u8]) -> u8
+    ensures { λ r. ⌜ r ≡ numberOf (firstOf (earlyRefusals damage (badLabel (now (label .entry))) false false false)) ⌝ }
+{
+    let labelled = dots::label_ok(label);
+    dots::number_of(steps::early_answer(damage, !labelled, false, false, false))
+}
+
+// Looks a label up: hands back the stretch of the lent store that holds its keys.
+pub fn lookup<'a>(
+    state: calls::State,
+    store: &'a [u8],
+    label: &[u8],
+    number: &mut u8,
+    listed: &mut bool,
+) -> &'a [u8]
+    ensures { λ r. ⌜ LooksUp state (store .entry) (now (label .entry)) (now (number .exit)) (now (listed .exit)) r ⌝ }
+{
+    let head = judging::head_of(state);
+    let judged = judging::judge(
+        head,
+        &state.clock.words,
+        &state.tombstone.bytes,
+        store,
+        label,
+    );
+    let refusal = lookup_number(store::is_damage(judged), label);
+    *number = refusal;
+    *listed = false;
+    if refusal != 0 {
+        return &store[0..0];
+    }
+    let name = state.name.bytes;
+    let len = state.name.len;
+    let stretch = used_stretch(
+        store,
+        state.used,
+        &name,
+        len,
+        label,
+        store::front_of(judged),
+    );
+    *listed = any_listed(len, stretch, state.tombstone);
+    stretch
+}

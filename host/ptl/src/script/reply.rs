@@ -1,0 +1,79 @@
+//! What a command gave, and its line.
+
+use super::fields::{dots, hex, text, Field, KeyType};
+use super::table::{Command, Worded};
+use ptl::calls::{KeyRead, Listed, Looked, MessageRead, Wrote};
+use ptl::{dots_of, Dot};
+
+#[derive(Clone, Copy, PartialEq, Eq, Debug)]
+pub enum Reply {
+    Answered(u8),
+    Wrote(Wrote),
+    Listed(Listed),
+    Looked(Looked),
+    Key(KeyRead),
+    Message(MessageRead),
+}
+
+impl Reply {
+    /// The answer's number.
+    pub fn answer(&self) -> u8 {
+        match self {
+            Reply::Answered(answer) => *answer,
+            Reply::Wrote(wrote) => wrote.answer,
+            Reply::Listed(listed) => listed.answer,
+            Reply::Looked(looked) => looked.answer,
+            Reply::Key(read) => read.answer,
+            Reply::Message(read) => read.answer,
+        }
+    }
+
+    /// The output line; `out` is the output that the command was lent.
+    pub fn line(&self, command: &Command, out: &[u8]) -> String {
+        let given = match (self, command) {
+            (Reply::Wrote(wrote), _) => format!(" {}", front(out, wrote.written)),
+            (Reply::Listed(listed), _) => {
+                format!(" {} {}", listed.labels, front(out, listed.written))
+            }
+            (Reply::Looked(looked), _) => {
+                let yes = if looked.listed { "yes" } else { "no" };
+                format!(" {yes} {} {}", looked.found.at, looked.found.len)
+            }
+            (Reply::Key(read), Command::ReadKey { bytes }) => key(read, bytes),
+            (Reply::Message(read), Command::ReadMessage { bytes }) => message(read, bytes),
+            _ => String::new(),
+        };
+        format!("{} {}{given}", command.word(), self.answer())
+    }
+}
+
+/// The bytes written at the front of an output.
+fn front(out: &[u8], written: usize) -> String {
+    hex(&out[..written.min(out.len())])
+}
+
+fn key(read: &KeyRead, bytes: &[u8]) -> String {
+    format!(
+        " {} {} {} {} {}",
+        KeyType::write(&read.kind).unwrap_or("-".into()),
+        text(read.name.of(bytes)),
+        text(read.label.of(bytes)),
+        read.actor,
+        read.counter
+    )
+}
+
+fn message(read: &MessageRead, bytes: &[u8]) -> String {
+    let (kind, dot) = match read.kind {
+        b'a' => ("add", Some(Dot::from((read.actor, read.counter)))),
+        b'r' => ("remove", None),
+        _ => ("-", None),
+    };
+    format!(
+        " {kind} {} {} {} {}",
+        text(read.name.of(bytes)),
+        text(read.label.of(bytes)),
+        dots(dot.as_slice()),
+        dots(&dots_of(read.context.of(bytes)))
+    )
+}
