@@ -49,5 +49,8 @@ module _ (ws s t : Bytes) (at next i : ℕ) (fits : at + 8 * length ws ≤ lengt
       put-next s t u (wordsBytes (take i ws)) (bigEndian 8 (getD ws i 0)) at next put front e (omega arith)
       ∙ rw (take-step ws i below, words-append, append-nil)
 
+pub words-end : (ws : List ℕ) (at next i : ℕ) → i ≤ length ws → length ws ≤ i → next ≡ at + 8 * i → at + length (wordsBytes ws) ≡ next
+words-end ws at next i most least e = rw length-words (omega arith)
+
 pub all-put : (ws s t : Bytes) (at i : ℕ) → length ws ≤ i → t ≡ putAt s at (wordsBytes (take i ws)) → t ≡ putAt s at (wordsBytes ws)
 all-put ws s t at i h e = rw (take-all i ws h) at e

@@ -39,7 +39,7 @@ fn put_number(block: &mut [u8], at: usize, number: u64) -> usize
 // Puts bytes and a number after them.
 fn put_with_number(block: &mut [u8], at: usize, bytes: &[u8], number: u64) -> usize
     requires { ⌜ at + length (now bytes) + 8 ≤ length (now block) ⌝ }
-    ensures { λ r. ⌜ (r ≡ at + length (now (bytes .entry)) + 8) × (now (block .exit) ≡ putAt (now (block .entry)) at (now (bytes .entry) ++ bigEndian 8 number)) ⌝ }
+    ensures { λ r. ⌜ Fills at r (now (bytes .entry) ++ bigEndian 8 number) (now (block .entry)) (now (block .exit)) ⌝ }
 {
     let next = moves::put(block, at, bytes);
     put_number(block, next, number)
@@ -48,7 +48,7 @@ fn put_with_number(block: &mut [u8], at: usize, bytes: &[u8], number: u64) -> us
 // Puts words, eight bytes each.
 fn put_words(block: &mut [u8], at: usize, words: &[u64]) -> usize
     requires { ⌜ at + 8 * length (now words) ≤ length (now block) ⌝ }
-    ensures { λ r. ⌜ (r ≡ at + 8 * length (now (words .entry))) × (now (block .exit) ≡ putAt (now (block .entry)) at (wordsBytes (now (words .entry)))) × AreWords (now (words .entry)) ⌝ }
+    ensures { λ r. ⌜ Fills at r (wordsBytes (now (words .entry))) (now (block .entry)) (now (block .exit)) × AreWords (now (words .entry)) ⌝ }
 {
     let mut next = at;
     let mut i = 0;

@@ -14,19 +14,19 @@ pub struct Tombstone {
 
 // What a controller holds, but for the store, which is lent to each call.
 pub struct State {
-    pub actor: dots::Actor,
     pub name: SetName,
     pub clock: clock::Clock,
     pub tombstone: Tombstone,
     pub used: usize,
+    pub actor: dots::Actor,
 }
 
 // A state beside the arrays of its clock and its tombstone: these are lent where a state by value would be copied.
 pub struct Head {
-    pub actor: dots::Actor,
     pub name: SetName,
     pub count: usize,
     pub used: usize,
+    pub actor: dots::Actor,
 }
 
 // What set-up gives.

@@ -6,15 +6,19 @@ use mathlib.Core.Path.{_≡_}
 use mathlib.Core.List.{_++_}
 use lib.ListN.{length, drop}
 use Rattle.wire.specs.declared.Span.{Span}
+use Rattle.wire.specs.Loans.{Loan, before, after}
 use Rattle.wire.specs.Bytes.{Bytes, IsPart}
 use Rattle.dots.specs.Answer.{numberOf}
 use Rattle.dots.specs.declared.Answer.the-variants.{Damaged}
 use Rattle.keys.specs.declared.KeyRead.{KeyRead}
-use Rattle.keys.specs.Key.{Key, keyBytes}
+use Rattle.keys.specs.Key.{Key, keyOf, keyBytes}
+use Rattle.keys.specs.Tests.{kindOf}
+use Rattle.keys.specs.Read.{readKey}
 use Rattle.messages.specs.declared.MessageRead.{MessageRead}
+use Rattle.messages.specs.Read.{readOf}
 use Rattle.calls.specs.Calls.{setUp}
 use Rattle.block.specs.Block.{stateBytes, stateIn}
-use Rattle.capi.specs.Left.{Left, isBlock, lookupLeft, keyAnswer, keyWritten}
+use Rattle.capi.specs.Left.{Left, isBlock, ownAddLeft, ownRemoveLeft, listLeft, lookupLeft, keyAnswer, keyWritten}
 
 -- the version of the interface: 100 times its major number and its minor number
 abbrev pub interfaceVersion : ℕ
@@ -35,6 +39,18 @@ pub record Leaves (left : Left) (block store out : Bytes) (written r : ℕ) : Ty
   pub out-is : out ≡ left .out
   pub written-is : written ≡ left .written
 
+-- an own add, on what is lent to it
+abbrev pub OwnAdds : Loan Bytes → Loan Bytes → Loan Bytes → Loan Bytes → Loan Bytes → Loan ℕ → ℕ → Type 0
+OwnAdds state store label context out written r =
+    Leaves (ownAddLeft (before state) (before store) (before label) (before context) (before out))
+    (after state) (after store) (after out) (after written) r
+
+-- an own remove; its store is only read
+abbrev pub OwnRemoves : Loan Bytes → Loan Bytes → Loan Bytes → Loan Bytes → Loan ℕ → ℕ → Type 0
+OwnRemoves state store context out written r =
+    Leaves (ownRemoveLeft (before state) (before store) (before context) (before out))
+    (after state) (before store) (after out) (after written) r
+
 -- a call that may change block and store
 pub record Changes (left : Left) (block store : Bytes) (r : ℕ) : Type 0 where
   pub answered : r ≡ left .number
@@ -49,6 +65,12 @@ pub record Lists (left : Left) (out : Bytes) (written labels r : ℕ) : Type 0 w
   pub written-is : written ≡ left .written
   pub labels-are : labels ≡ left .labels
 
+-- the same, on what is lent to it
+abbrev pub ListsLabels : Loan Bytes → Loan Bytes → Loan Bytes → Loan ℕ → Loan ℕ → ℕ → Type 0
+ListsLabels state store out written labels r =
+    Lists (listLeft (before state) (before store) (before out))
+    (after out) (after written) (after labels) r
+
 -- a lookup: the answer's number, the yes, and the very stretch of the lent store
 pub record LooksUp (block : Bytes) (store : RefT Bytes) (label : Bytes) (found : RefT Bytes) (listed : Bool) (r : ℕ) : Type 0 where
   pub answered : r ≡ numberOf (lookupLeft block (store .now) label .answer)
@@ -60,6 +82,12 @@ pub record WritesKey (byte : ℕ) (k : Key) (before after : Bytes) (written r : 
   pub answered : r ≡ numberOf (keyAnswer byte k (length before))
   pub out-is : after ≡ cond (keyWritten byte k (length before)) (keyBytes k ++ drop (length (keyBytes k)) before) before
   pub written-is : written ≡ cond (keyWritten byte k (length before)) (length (keyBytes k)) 0
+
+-- the same for the fields of a key, into the lent output
+abbrev pub WritesKeyOf : ℕ → Loan Bytes → Loan Bytes → ℕ → ℕ → Loan Bytes → Loan ℕ → ℕ → Type 0
+WritesKeyOf byte name label actor counter out written r =
+    WritesKey byte (keyOf (kindOf byte) (before name) (before label) actor counter)
+    (before out) (after out) (after written) r
 
 -- a stretch: its first place and its length
 pub record Spans (p : Span) (at len : ℕ) : Type 0 where
@@ -75,6 +103,12 @@ pub record ReadsKey (read : KeyRead) (kind name-at name-len label-at label-len a
   pub actor-is : actor ≡ read .actor
   pub counter-is : counter ≡ read .counter
 
+-- the same for the lent bytes, each field into a lent number
+abbrev pub ReadsKeyIn : Loan Bytes → Loan ℕ → Loan ℕ → Loan ℕ → Loan ℕ → Loan ℕ → Loan ℕ → Loan ℕ → ℕ → Type 0
+ReadsKeyIn bytes kind name-at name-len label-at label-len actor counter r =
+    ReadsKey (readKey (before bytes)) (after kind) (after name-at) (after name-len) (after label-at) (after label-len)
+    (after actor) (after counter) r
+
 -- reading a message
 pub record ReadsMessage (read : MessageRead) (kind name-at name-len label-at label-len actor counter context-at context-len r : ℕ) : Type 0 where
   pub answered : r ≡ numberOf (read .answer)
@@ -84,3 +118,9 @@ pub record ReadsMessage (read : MessageRead) (kind name-at name-len label-at lab
   pub actor-is : actor ≡ read .dot .actor .number
   pub counter-is : counter ≡ read .dot .counter .number
   pub context-is : Spans (read .context) context-at context-len
+
+-- the same for the lent bytes, each field into a lent number
+abbrev pub ReadsMessageIn : Loan Bytes → Loan ℕ → Loan ℕ → Loan ℕ → Loan ℕ → Loan ℕ → Loan ℕ → Loan ℕ → Loan ℕ → Loan ℕ → ℕ → Type 0
+ReadsMessageIn bytes kind name-at name-len label-at label-len actor counter context-at context-len r =
+    ReadsMessage (readOf (before bytes)) (after kind) (after name-at) (after name-len) (after label-at) (after label-len)
+    (after actor) (after counter) (after context-at) (after context-len) r

@@ -1,11 +1,7 @@
 // The C interface: the calls of the controller on a state that crosses as a block of bytes.
 ghost use mathlib.Core.Path.{_≡_};
-ghost use Rattle.keys.specs.Key.{keyOf};
-ghost use Rattle.keys.specs.Tests.{kindOf};
-ghost use Rattle.keys.specs.Read.{readKey};
-ghost use Rattle.messages.specs.Read.{readOf};
-ghost use Rattle.capi.specs.Left.{ownAddLeft, ownRemoveLeft, takeInLeft, listLeft, compactLeft};
-ghost use Rattle.capi.specs.Promise.{interfaceVersion, SetsUp, Leaves, Changes, Lists, LooksUp, WritesKey, ReadsKey, ReadsMessage};
+ghost use Rattle.capi.specs.Left.{takeInLeft, compactLeft};
+ghost use Rattle.capi.specs.Promise.{interfaceVersion, SetsUp, OwnAdds, OwnRemoves, Changes, ListsLabels, LooksUp, WritesKeyOf, ReadsKeyIn, ReadsMessageIn};
 
 // The version of this interface: 100 times its major number and its minor number.
 const VERSION: u32 = 100;
@@ -45,7 +41,7 @@ pub extern "C" fn ptl_own_add(
     out: &mut [u8],
     written: &mut usize,
 ) -> u8
-    ensures { λ r. ⌜ Leaves (ownAddLeft (now (state .entry)) (now (store .entry)) (now (label .entry)) (now (context .entry)) (now (out .entry))) (now (state .exit)) (now (store .exit)) (now (out .exit)) (now (written .exit)) r ⌝ }
+    ensures { λ r. ⌜ OwnAdds state store label context out written r ⌝ }
 {
     *written = 0;
     if state.len() != block::STATE_SIZE {
@@ -68,7 +64,7 @@ pub extern "C" fn ptl_own_remove(
     out: &mut [u8],
     written: &mut usize,
 ) -> u8
-    ensures { λ r. ⌜ Leaves (ownRemoveLeft (now (state .entry)) (now (store .entry)) (now (context .entry)) (now (out .entry))) (now (state .exit)) (now (store .entry)) (now (out .exit)) (now (written .exit)) r ⌝ }
+    ensures { λ r. ⌜ OwnRemoves state store context out written r ⌝ }
 {
     *written = 0;
     if state.len() != block::STATE_SIZE {
@@ -106,7 +102,7 @@ pub extern "C" fn ptl_list(
     written: &mut usize,
     labels: &mut usize,
 ) -> u8
-    ensures { λ r. ⌜ Lists (listLeft (now (state .entry)) (now (store .entry)) (now (out .entry))) (now (out .exit)) (now (written .exit)) (now (labels .exit)) r ⌝ }
+    ensures { λ r. ⌜ ListsLabels state store out written labels r ⌝ }
 {
     *written = 0;
     *labels = 0;
@@ -174,7 +170,7 @@ pub extern "C" fn ptl_write_key(
     out: &mut [u8],
     written: &mut usize,
 ) -> u8
-    ensures { λ r. ⌜ WritesKey kind (keyOf (kindOf kind) (now (name .entry)) (now (label .entry)) actor counter) (now (out .entry)) (now (out .exit)) (now (written .exit)) r ⌝ }
+    ensures { λ r. ⌜ WritesKeyOf kind name label actor counter out written r ⌝ }
 {
     *written = 0;
     let typed = keys::kind_of(kind);
@@ -200,7 +196,7 @@ pub extern "C" fn ptl_read_key(
     actor: &mut u8,
     counter: &mut u64,
 ) -> u8
-    ensures { λ r. ⌜ ReadsKey (readKey (now (bytes .entry))) (now (kind .exit)) (now («name_at» .exit)) (now («name_len» .exit)) (now («label_at» .exit)) (now («label_len» .exit)) (now (actor .exit)) (now (counter .exit)) r ⌝ }
+    ensures { λ r. ⌜ ReadsKeyIn bytes kind «name_at» «name_len» «label_at» «label_len» actor counter r ⌝ }
 {
     let read = keys::read_key(bytes);
     *kind = read.kind;
@@ -228,7 +224,7 @@ pub extern "C" fn ptl_read_message(
     context_at: &mut usize,
     context_len: &mut usize,
 ) -> u8
-    ensures { λ r. ⌜ ReadsMessage (readOf (now (bytes .entry))) (now (kind .exit)) (now («name_at» .exit)) (now («name_len» .exit)) (now («label_at» .exit)) (now («label_len» .exit)) (now (actor .exit)) (now (counter .exit)) (now («context_at» .exit)) (now («context_len» .exit)) r ⌝ }
+    ensures { λ r. ⌜ ReadsMessageIn bytes kind «name_at» «name_len» «label_at» «label_len» actor counter «context_at» «context_len» r ⌝ }
 {
     let read = messages::read_message(bytes);
     *kind = read.kind;

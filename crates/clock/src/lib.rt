@@ -1,15 +1,15 @@
 // The clock: which events of each of 16 actors were seen. A row by value for one actor; the whole clock flat in 32 words.
 ghost use mathlib.Core.Path.{_≡_};
 ghost use mathlib.Core.Bool.{true};
-ghost use mathlib.Core.List.{_∷_, _++_};
+ghost use mathlib.Core.List.{_∷_};
 ghost use Prim.Native.Nat.{_+_, _≤_};
-ghost use lib.ListN.{length};
 ghost use Rattle.dots.specs.Dots.{maxCounter};
 ghost use Rattle.dots.specs.Wire.{dotsOf};
 ghost use Rattle.clock.specs.Row.{windowWidth, seen as isSeen, wellFormed, inReach, trailingOnes, settled, join as joined};
 ghost use Rattle.clock.specs.Code.{rowOf};
-ghost use Rattle.clock.specs.Clock.{rowAt, withRow, sees as isSeenBy, rowsOk, clockOk, joinDot, joinEach, joinAll, near, clockWords};
-ghost use Rattle.clock.specs.Reach.{reachOf, reachStart, rowFor, reachStep, reachEach, Ready, Offer, OfferWith};
+ghost use Rattle.clock.specs.Clock.{rowAt, withRow, sees as isSeenBy, rowsOk, clockOk, joinDot, joinEach, joinAll, near};
+ghost use Rattle.clock.specs.Reach.{reachOf, reachStart, rowFor, reachStep, reachEach, IsReach, dotsAround};
+ghost use Rattle.clock.specs.Reach.{CanJoinDot, Ready, Offer, OfferWith, CanJoinContext, CanJoinWithDot};
 
 // ---- one row
 
@@ -185,7 +185,7 @@ pub fn clock_ok(own: dots::Actor, words: &Words) -> bool
 
 // The clock that also sees the dot.
 fn join_dot(words: &mut Words, dot: dots::Dot)
-    requires { ⌜ (wellFormed windowWidth (rowAt (now words) (dot .actor .number)) ≡ true) × (inReach windowWidth (rowAt (now words) (dot .actor .number)) (dot .counter .number) ≡ true) ⌝ }
+    requires { ⌜ CanJoinDot windowWidth (now words) dot ⌝ }
     ensures { λ _. ⌜ now (words .exit) ≡ joinDot windowWidth (now (words .entry)) dot ⌝ }
 {
     let row = row_of(words, dot.actor);
@@ -205,7 +205,7 @@ fn row_for(words: &Words, x: Reach, actor: dots::Actor) -> Row
 // Whether one dot more is in reach.
 fn reach_step(words: &Words, x: Reach, dot: dots::Dot) -> Reach
     requires { ⌜ (rowsOk windowWidth (now words) ≡ true) × (wellFormed windowWidth (rowOf (x .row)) ≡ true) ⌝ }
-    ensures { λ r. ⌜ (reachOf r ≡ reachStep windowWidth (now (words .entry)) (reachOf x) dot) × (wellFormed windowWidth (rowOf (r .row)) ≡ true) ⌝ }
+    ensures { λ r. ⌜ IsReach windowWidth (reachStep windowWidth (now (words .entry)) (reachOf x) dot) r ⌝ }
 {
     let row = row_for(words, x, dot.actor);
     if !x.ok {
@@ -228,7 +228,7 @@ fn reach_step(words: &Words, x: Reach, dot: dots::Dot) -> Reach
 // Whether all dots of the bytes are in reach, one after the other.
 fn reach_dots(words: &Words, from: Reach, offered: &[u8]) -> Reach
     requires { ⌜ (rowsOk windowWidth (now words) ≡ true) × (wellFormed windowWidth (rowOf (from .row)) ≡ true) ⌝ }
-    ensures { λ r. ⌜ (reachOf r ≡ reachEach windowWidth (now (words .entry)) (reachOf from) (dotsOf (now (offered .entry)))) × (wellFormed windowWidth (rowOf (r .row)) ≡ true) ⌝ }
+    ensures { λ r. ⌜ IsReach windowWidth (reachEach windowWidth (now (words .entry)) (reachOf from) (dotsOf (now (offered .entry)))) r ⌝ }
 {
     let mut x = from;
     let n = offered.len() / dots::DOT_SIZE;
@@ -279,8 +279,8 @@ pub fn near_context(words: &Words, context: &[u8]) -> bool
 
 // The same for dots before one, the one, and dots after it.
 fn near_around(words: &Words, before: &[u8], dot: dots::Dot, after: &[u8]) -> bool
-    requires { ⌜ Offer windowWidth (now words) (dotsOf (now before) ++ (dot ∷ dotsOf (now after))) ⌝ }
-    ensures { λ r. ⌜ r ≡ near windowWidth (now (words .entry)) (dotsOf (now (before .entry)) ++ (dot ∷ dotsOf (now (after .entry)))) ⌝ }
+    requires { ⌜ Offer windowWidth (now words) (dotsAround (now before) dot (now after)) ⌝ }
+    ensures { λ r. ⌜ r ≡ near windowWidth (now (words .entry)) (dotsAround (now (before .entry)) dot (now (after .entry))) ⌝ }
 {
     let below = reach_dots(words, reach_start(), before);
     let there = reach_step(words, below, dot);
@@ -299,7 +299,7 @@ pub fn near_with_dot(words: &Words, context: &[u8], dot: dots::Dot) -> bool
 
 // Joins a context where refusal 10 does not hold.
 pub fn join_context(words: &mut Words, context: &[u8])
-    requires { ⌜ (length (now words) ≡ clockWords) × Offer windowWidth (now words) (dotsOf (now context)) × (near windowWidth (now words) (dotsOf (now context)) ≡ true) ⌝ }
+    requires { ⌜ CanJoinContext windowWidth (now words) (now context) ⌝ }
     ensures { λ _. ⌜ now (words .exit) ≡ joinAll windowWidth (now (words .entry)) (dotsOf (now (context .entry))) ⌝ }
 {
     join_dots(words, context);
@@ -307,8 +307,8 @@ pub fn join_context(words: &mut Words, context: &[u8])
 
 // Joins dots before one, the one, and dots after it.
 fn join_around(words: &mut Words, before: &[u8], dot: dots::Dot, after: &[u8])
-    requires { ⌜ Ready windowWidth (now words) (dotsOf (now before) ++ (dot ∷ dotsOf (now after))) ⌝ }
-    ensures { λ _. ⌜ now (words .exit) ≡ joinEach windowWidth (now (words .entry)) (dotsOf (now (before .entry)) ++ (dot ∷ dotsOf (now (after .entry)))) ⌝ }
+    requires { ⌜ Ready windowWidth (now words) (dotsAround (now before) dot (now after)) ⌝ }
+    ensures { λ _. ⌜ now (words .exit) ≡ joinEach windowWidth (now (words .entry)) (dotsAround (now (before .entry)) dot (now (after .entry))) ⌝ }
 {
     join_dots(words, before);
     join_dot(words, dot);
@@ -317,7 +317,7 @@ fn join_around(words: &mut Words, before: &[u8], dot: dots::Dot, after: &[u8])
 
 // Joins a context and one more dot, in ascending order.
 pub fn join_with_dot(words: &mut Words, context: &[u8], dot: dots::Dot)
-    requires { ⌜ (length (now words) ≡ clockWords) × OfferWith windowWidth (now words) (now context) dot × (near windowWidth (now words) (dot ∷ dotsOf (now context)) ≡ true) ⌝ }
+    requires { ⌜ CanJoinWithDot windowWidth (now words) (now context) dot ⌝ }
     ensures { λ _. ⌜ now (words .exit) ≡ joinAll windowWidth (now (words .entry)) (dot ∷ dotsOf (now (context .entry))) ⌝ }
 {
     let at = contexts::place_of(context, dot) * dots::DOT_SIZE;

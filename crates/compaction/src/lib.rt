@@ -1,23 +1,26 @@
 // Compaction of a label store in place, with its tombstone.
 ghost use mathlib.Core.Path.{_≡_};
 ghost use mathlib.Core.Bool.{true};
-ghost use Prim.Native.Nat.{_+_, _-_, _*_, _≤_};
-ghost use lib.ListN.{length, take};
-ghost use Rattle.wire.specs.Lists.{member};
-ghost use Rattle.dots.specs.Dots.{compareDots, ascendingDots, tombstoneMost};
-ghost use Rattle.dots.specs.Wire.{dotsOf, dotsBytes, dotSize, tombstoneSize};
-ghost use Rattle.dots.specs.Entries.{entry};
-ghost use Rattle.slots.specs.Slots.{Slotted};
+ghost use Prim.Native.Nat.{_≤_};
+ghost use lib.ListN.{length};
+ghost use Rattle.dots.specs.Dots.{tombstoneMost};
+ghost use Rattle.dots.specs.Wire.{dotsOf, tombstoneSize};
 ghost use Rattle.store.specs.Valid.{keysFit};
-ghost use Rattle.compaction.specs.Compaction.{Compacts, inPlaceOf};
-ghost use Rattle.compaction.specs.Marks.{unmarked, MarksDot, KeepsPiece, DropsKey, DropsKeys};
+ghost use Rattle.compaction.specs.Compaction.{CanCompact, Compacts};
+ghost use Rattle.compaction.specs.Marks.{DotsWithMarks, MarksDot, PieceFits, KeepsPiece, KeyFits, DropsDeadKey, DropsDeadKeys, DropsDots};
 ghost use Rattle.dots.specs.Names.{nameMost};
-ghost use Rattle.keys.specs.Key.{suffixSize};
 
 // The used length and the number of tombstone dots that compacting leaves.
 pub struct Compacted {
     pub used: usize,
     pub count: usize,
+}
+
+// A piece of a buffer: where it begins and ends, and where it goes if it is kept.
+struct Piece {
+    from: usize,
+    end: usize,
+    to: usize,
 }
 
 // ---- compaction
@@ -29,7 +32,7 @@ fn mark_dot(
     marks: &mut [u8; dots::TOMBSTONE_MOST],
     dot: dots::Dot,
 ) -> bool
-    requires { ⌜ (ascendingDots (dotsOf (now ascending)) ≡ true) × Slotted (dotsOf (now ascending)) (now slots) × (length (now ascending) ≤ tombstoneSize) × (length (now marks) ≡ tombstoneMost) ⌝ }
+    requires { ⌜ DotsWithMarks (now ascending) (now slots) (now marks) ⌝ }
     ensures { λ r. ⌜ MarksDot dot (dotsOf (now (ascending .entry))) r (now (marks .entry)) (now (marks .exit)) ⌝ }
 {
     if !slots::holds_slotted(ascending, slots, dot) {
@@ -40,11 +43,14 @@ fn mark_dot(
     true
 }
 
-// Keeps the piece from `from` to `end` at `to`, or leaves it out. Returns where the next one goes.
-fn keep_piece(s: &mut [u8], kept: bool, from: usize, end: usize, to: usize) -> usize
-    requires { ⌜ (to ≤ from) × (from ≤ end) × (end ≤ length (now s)) ⌝ }
-    ensures { λ r. ⌜ KeepsPiece kept from end to r (now (s .entry)) (now (s .exit)) ⌝ }
+// Keeps a piece where it goes, or leaves it out. Returns where the next one goes.
+fn keep_piece(s: &mut [u8], kept: bool, piece: Piece) -> usize
+    requires { ⌜ PieceFits (length (now s)) piece ⌝ }
+    ensures { λ r. ⌜ KeepsPiece kept (piece .from) (piece .end) (piece .to) r (now (s .entry)) (now (s .exit)) ⌝ }
 {
+    let from = piece.from;
+    let end = piece.end;
+    let to = piece.to;
     if !kept {
         return to;
     }
@@ -55,22 +61,22 @@ fn keep_piece(s: &mut [u8], kept: bool, from: usize, end: usize, to: usize) -> u
     end - (from - to)
 }
 
-// Keeps the key from `from` to `end` at `to`, or marks its dot if that is one of the ascending dots. Returns where the next one goes.
+// Keeps a key where it goes, or marks its dot if that is one of the ascending dots. Returns where the next one goes.
 fn drop_key(
     keys: &mut [u8],
     ascending: &[u8],
     slots: &slots::Slots,
     marks: &mut [u8; dots::TOMBSTONE_MOST],
-    from: usize,
-    end: usize,
-    to: usize,
+    key: Piece,
 ) -> usize
-    requires { ⌜ (to ≤ from) × (from + (suffixSize - 1) ≤ end) × (end ≤ length (now keys)) × (ascendingDots (dotsOf (now ascending)) ≡ true) × Slotted (dotsOf (now ascending)) (now slots) × (length (now ascending) ≤ tombstoneSize) × (length (now marks) ≡ tombstoneMost) ⌝ }
-    ensures { λ r. ⌜ DropsKey (λ d. member compareDots d (dotsOf (now (ascending .entry)))) (dotsOf (now (ascending .entry))) from end to r (now (keys .entry)) (now (keys .exit)) (now (marks .entry)) (now (marks .exit)) ⌝ }
+    requires { ⌜ KeyFits (length (now keys)) key × DotsWithMarks (now ascending) (now slots) (now marks) ⌝ }
+    ensures { λ r. ⌜ DropsDeadKey (now (ascending .entry)) key r (now (keys .entry)) (now (keys .exit)) (now (marks .entry)) (now (marks .exit)) ⌝ }
 {
+    let from = key.from;
+    let end = key.end;
     let dot = store::key_dot(&keys[from..end]);
     let gone = mark_dot(ascending, slots, marks, dot);
-    keep_piece(keys, !gone, from, end, to)
+    keep_piece(keys, !gone, key)
 }
 
 // Drops the keys whose dots are among the ascending dots, and marks these. Returns how many bytes are left; the freed ones become 0.
@@ -81,14 +87,14 @@ fn drop_keys(
     slots: &slots::Slots,
     marks: &mut [u8; dots::TOMBSTONE_MOST],
 ) -> usize
-    requires { ⌜ (n ≤ nameMost) × (keysFit n (now keys) ≡ true) × (ascendingDots (dotsOf (now ascending)) ≡ true) × Slotted (dotsOf (now ascending)) (now slots) × (length (now ascending) ≤ tombstoneSize) × (length (now marks) ≡ tombstoneMost) ⌝ }
-    ensures { λ r. ⌜ DropsKeys (λ d. member compareDots d (dotsOf (now (ascending .entry)))) (dotsOf (now (ascending .entry))) n r (now (keys .entry)) (now (keys .exit)) (now (marks .entry)) (now (marks .exit)) ⌝ }
+    requires { ⌜ (n ≤ nameMost) × (keysFit n (now keys) ≡ true) × DotsWithMarks (now ascending) (now slots) (now marks) ⌝ }
+    ensures { λ r. ⌜ DropsDeadKeys n (now (ascending .entry)) r (now (keys .entry)) (now (keys .exit)) (now (marks .entry)) (now (marks .exit)) ⌝ }
 {
     let mut from: usize = 0;
     let mut to: usize = 0;
     while from < keys.len() {
         let end = from + store::key_length(n, &keys[from..]);
-        to = drop_key(keys, ascending, slots, marks, from, end, to);
+        to = drop_key(keys, ascending, slots, marks, Piece { from, end, to });
         from = end;
     }
     moves::clear(&mut keys[to..]);
@@ -98,14 +104,15 @@ fn drop_keys(
 // Moves the unmarked dots together. Returns how many there are; the freed bytes become 0.
 fn drop_dots(bytes: &mut [u8], marks: &[u8; dots::TOMBSTONE_MOST]) -> usize
     requires { ⌜ (length (now bytes) ≤ tombstoneSize) × (length (now marks) ≡ tombstoneMost) ⌝ }
-    ensures { λ r. ⌜ (r ≡ length (unmarked (now (marks .entry)) (dotsOf (now (bytes .entry))))) × (now (bytes .exit) ≡ inPlaceOf (dotsBytes (unmarked (now (marks .entry)) (dotsOf (now (bytes .entry))))) (length (now (bytes .entry))) (now (bytes .entry))) ⌝ }
+    ensures { λ r. ⌜ DropsDots (now (marks .entry)) r (now (bytes .entry)) (now (bytes .exit)) ⌝ }
 {
     let n = bytes.len() / dots::DOT_SIZE;
     let mut to: usize = 0;
     let mut i: usize = 0;
     while i < n {
         let from = i * dots::DOT_SIZE;
-        to = keep_piece(bytes, marks[i] == 0, from, from + dots::DOT_SIZE, to);
+        let end = from + dots::DOT_SIZE;
+        to = keep_piece(bytes, marks[i] == 0, Piece { from, end, to });
         i += 1;
     }
     moves::clear(&mut bytes[to..]);
@@ -120,7 +127,7 @@ pub fn compact(
     tombstone: &mut [u8],
     count: usize,
 ) -> Compacted
-    requires { ⌜ (n ≤ nameMost) × (used ≤ length (now store)) × (count ≤ tombstoneMost) × (length (now tombstone) ≡ tombstoneSize) × (keysFit n (take used (now store)) ≡ true) × (ascendingDots (dotsOf (take (count * dotSize) (now tombstone))) ≡ true) ⌝ }
+    requires { ⌜ CanCompact n used count (now store) (now tombstone) ⌝ }
     ensures { λ r. ⌜ Compacts n used count (now (store .entry)) (now (tombstone .entry)) (now (store .exit)) (now (tombstone .exit)) r ⌝ }
 {
     let size = count * dots::DOT_SIZE;

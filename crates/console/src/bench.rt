@@ -1,9 +1,4 @@
 // Looking at a controller's state and store, and damaging them.
-use crate::limits::ROWS;
-use crate::parse;
-use crate::parse::Line;
-use crate::parts;
-use crate::print;
 use block::CLOCK_AT;
 use block::COUNT_AT;
 use block::NAME_AT;
@@ -12,6 +7,42 @@ use block::ROW_SIZE;
 use block::STATE_SIZE;
 use block::TOMBSTONE_AT;
 use block::USED_AT;
+use lines::limits::ROWS;
+use lines::parse;
+use lines::parse::Line;
+use lines::parts;
+use lines::print;
+ghost use Prim.Native.Nat.{_<_};
+
+// Row number i of the clock in a block, unless it is zero. Returns 1 if a row is printed by now.
+fn row(state: &[u8], i: usize, printed: usize) -> usize
+    requires { ⌜ i < 16 ⌝ }
+{
+    let at = CLOCK_AT + i * ROW_SIZE;
+    let base = parts::number_at(state, at);
+    let window = parts::number_at(state, at + 8);
+    if (base == 0) & (window == 0) {
+        return printed;
+    }
+    print::joined(printed, i as u64 + 1);
+    print::marked(b":", base);
+    print::text(b":");
+    io::print_hex(1, window, 16);
+    1
+}
+
+// The clock in a block.
+fn clock(state: &[u8]) {
+    let mut printed = 0;
+    let mut i = 0;
+    while i < ROWS {
+        printed = row(state, i, printed);
+        i += 1;
+    }
+    if printed == 0 {
+        print::text(b" -");
+    }
+}
 
 pub fn show_state(state: &[u8]) {
     let length = parts::number_at(state, NAME_LENGTH_AT) as usize;
@@ -22,7 +53,7 @@ pub fn show_state(state: &[u8]) {
         parts::least(length, dots::NAME_MOST),
     ));
     print::number(parts::number_at(state, USED_AT));
-    print::clock(state);
+    clock(state);
     print::dots(
         parts::from(state, TOMBSTONE_AT),
         parts::least(count, dots::TOMBSTONE_MOST),
@@ -60,7 +91,7 @@ fn place(poke: usize, number: usize) -> usize {
 
 // Sets a field of the state, or a byte of the store, to these bytes.
 pub fn poke(line: Line, state: &mut [u8; STATE_SIZE], store: &mut [u8], bytes: &[u8]) {
-    let number = line.first;
+    let number = line.second;
     if line.command == parse::BYTE {
         parts::put(store, number, bytes);
         return;

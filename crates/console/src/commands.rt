@@ -1,7 +1,7 @@
 // The calls of a controller that write an output, and their answers.
-use crate::parts;
-use crate::print;
 use block::STATE_SIZE;
+use lines::parts;
+use lines::print;
 
 // Own add. The label has the first bytes of the arguments, and the context the others.
 pub fn add(

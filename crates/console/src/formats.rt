@@ -1,6 +1,6 @@
 // Keys and messages, written and read without a controller.
-use crate::parts;
-use crate::print;
+use lines::parts;
+use lines::print;
 
 // Writes a key of a type. The arguments are a name of so many bytes, a label, an actor and a counter.
 pub fn write_key(kind: usize, name_length: usize, args: &[u8], out: &mut [u8]) {

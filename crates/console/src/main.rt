@@ -2,25 +2,27 @@
 // It is the console of the command `ptl`, line for line, over the same interface.
 mod bench;
 mod commands;
-mod fields;
 mod formats;
-mod limits;
 mod lookup;
-mod parse;
-mod parts;
-mod print;
-mod why;
 
 use block::STATE_SIZE;
-use limits::ARGUMENTS_MAX;
-use limits::BUFFER_MAX;
-use limits::BUFFER_START;
-use limits::CONTROLLERS;
-use limits::INPUT_MAX;
-use limits::LINE_MAX;
-use limits::OUT_FILL;
-use limits::OUT_MAX;
-use parse::Line;
+use lines::limits::ARGUMENTS_MAX;
+use lines::limits::BUFFER_MAX;
+use lines::limits::CONTROLLERS;
+use lines::limits::LINE_MAX;
+use lines::limits::OUT_FILL;
+use lines::limits::OUT_MAX;
+use lines::parse;
+use lines::parse::Line;
+use lines::parts;
+use lines::print;
+use lines::why;
+
+// The longest input. One as long or longer is refused.
+const INPUT_MAX: usize = 2097152;
+
+// How long each store is at the start.
+const BUFFER_START: usize = store::STORE_MOST;
 
 type States = [[u8; STATE_SIZE]; CONTROLLERS];
 
@@ -91,11 +93,11 @@ fn answer(
     let k = line.controller % CONTROLLERS;
     let length = lengths[k];
     if line.why != 0 {
-        why::refuse(line.why);
+        why::refuse(line.why, line.field);
         return;
     }
-    if (line.command == parse::BYTE) & (length <= line.first) {
-        why::refuse(why::OUTSIDE);
+    if (line.command == parse::BYTE) & (length <= line.second) {
+        why::refuse(why::OUTSIDE, 2);
         return;
     }
     print::text(parts::before(parse::body(text), b' '));
@@ -121,7 +123,7 @@ fn console(
 ) {
     let n = io::read_full(0, input);
     if INPUT_MAX <= n {
-        why::refuse(why::LONG_INPUT);
+        why::refuse(why::LONG_INPUT, 0);
         return;
     }
     let all = parts::front(input, n);

@@ -17,17 +17,16 @@ use Rattle.wire.proofs.Lists.{tie-is}
 use Rattle.wire.proofs.Orders.{bytesLawful}
 use Rattle.wire.proofs.ByteOrder.{starts-itself, starts-split}
 use Rattle.dots.specs.declared.Answer.{Answer}
-use Rattle.dots.specs.declared.Answer.the-variants.{Done, Damaged, OtherSet, OwnAhead, TooFar, TombstoneFull, StoreFull}
+use Rattle.dots.specs.declared.Answer.the-variants.{Damaged, OtherSet, OwnAhead, TooFar, TombstoneFull, StoreFull}
 use Rattle.dots.specs.declared.Dot.{Dot}
 use Rattle.dots.specs.Answer.{numberOf, Refusals, firstOf}
 use Rattle.dots.specs.Names.{Name}
-use Rattle.dots.specs.Dots.{contextOk, tombstoneMost}
+use Rattle.dots.specs.Dots.{contextOk}
 use Rattle.dots.specs.Wire.{dotsOf}
 use Rattle.dots.specs.Message.{Message, add, remove, offeredOf}
 use Rattle.dots.proofs.Table.{NoneHolds, none-holds}
 use Rattle.dots.proofs.Rules.{ascending-valid}
-use Rattle.clock.specs.Row.{windowWidth}
-use Rattle.clock.specs.Clock.{rowAt, joinAll, near}
+use Rattle.clock.specs.Clock.{rowAt}
 use Rattle.messages.specs.declared.MessageRead.{MessageRead}
 use Rattle.messages.specs.Message.{addKind, messageOk}
 use Rattle.messages.specs.Read.{nameOf as messageName, messageOf, readRefusals, readAnswer, accepted, noMessage, readOf}
@@ -36,15 +35,15 @@ use Rattle.store.specs.Valid.{storeMost}
 use Rattle.replica.specs.Machine.{takeIn, apply, effect}
 use Rattle.calls.specs.declared.State.{State}
 use Rattle.calls.specs.declared.Outcome.{Outcome}
-use Rattle.calls.specs.State.{clockModel, nameOf, view, Sized}
+use Rattle.calls.specs.State.{nameOf, view, Sized}
 use Rattle.calls.specs.Damage.{damaged}
-use Rattle.calls.specs.Effect.{tombstoneOf, stateOf, storeOf}
 use Rattle.calls.specs.Refusals.{otherSet, ownAhead, tooFar, tombstoneFull, storeFull}
 use Rattle.calls.specs.Calls.{toStore, takeInRefusals, takeInDone, takeInResult}
 use Rattle.calls.specs.Promise.{Leaves}
-use Rattle.steps.specs.Tests.{stateWith, aheadOf, nextTombstone, ContextFits, addLate, removeLate, MayOffer, MayApply, applied}
-use Rattle.judging.specs.Judging.{stateOk, LowPart}
-use Rattle.intake.specs.Work.{takenLate, takenAnswer, MayTakeIn}
+use Rattle.steps.specs.declared.Lent.{Lent}
+use Rattle.steps.specs.Tests.{aheadOf, ContextFits, addLate, removeLate, Told, MayOffer, MayApply, MayRemove, removedState, doneWith}
+use Rattle.judging.specs.Judging.{stateOk}
+use Rattle.intake.specs.Work.{takenLate, takenOf, takenAnswer, TakeAnswers, MayJudge, MayTakeIn, TookAdd, TakenIn}
 use Rattle.calls.proofs.Clauses.{undamaged, used-fits, store-fits}
 use Rattle.steps.proofs.Performed.{removed-state, removed-store}
 use Rattle.steps.proofs.Answers.{stops, none-of, passes, leaves-refused, leaves-done, state-kept}
@@ -168,14 +167,14 @@ module _ (st : State) (store message : Bytes) (read : MessageRead) (read-is : re
     unfolding readAnswer
     front-is = first-is ∙ rw (damage-is, read-is, read-answers message)
 
-    pub take-refused : (k ≡ 0 → ⊥) → r ≡ firstOf (takeInRefusals st store message)
+    take-refused : (k ≡ 0 → ⊥) → r ≡ firstOf (takeInRefusals st store message)
     take-refused t = stops front r k front-is numbered (rest st store (messageName message) (messageOf message)) t
 
     module _ (t : k ≡ 0) where
       whole : damaged st store ≡ false
       whole = none-of front r k front-is numbered (search needs) t .0
 
-      pub take-kept : (stateOk st ≡ true) × (st .used ≤ storeMost) × Found message read
+      take-kept : (stateOk st ≡ true) × (st .used ≤ storeMost) × Found message read
       take-kept =
           let u = undamaged st store whole in
           let fits = used-fits st store u in
@@ -183,11 +182,26 @@ module _ (st : State) (store message : Bytes) (read : MessageRead) (read-is : re
           let accepts : numberOf (read .answer) ≡ 0 = rw (damage-is, whole) at (sym (numbered ∙ ap numberOf first-is) ∙ t) in
           (state-kept st store whole, omega arith, found message read read-is accepts)
 
-      pub take-passed : Sized st → (q : Answer) → q ≡ firstOf (takenLate st (length store) (messageName message) (messageOf message)) → q ≡ firstOf (takeInRefusals st store message)
+      take-passed : Sized st → (q : Answer) → q ≡ firstOf (takenLate st (length store) (messageName message) (messageOf message)) → q ≡ firstOf (takeInRefusals st store message)
       take-passed size q h = passes front r k front-is numbered (rest st store (messageName message) (messageOf message)) q (search needs) t (h ∙ late-is st store (name-length st size (take-kept .0)) (messageName message) (messageOf message))
 
-  -- ---- what is left
+-- the answer, where the call is told whether refusal 1 holds
+module _ (st : State) (message : Bytes) (read : MessageRead) (read-is : read ≡ readOf message) (lent : Lent) (r : Answer) (k : ℕ)
+    (first-is : r ≡ cond (lent .damage) Damaged (read .answer)) (numbered : k ≡ numberOf r) where
+  pub answer-refused : (k ≡ 0 → ⊥) → TakeAnswers st message lent r
+  answer-refused t store out e f d = take-refused st store message read read-is (lent .damage) r k d first-is numbered t
 
+  pub may-judge : (told : Told st lent) → k ≡ 0 → MayJudge st message read
+  may-judge told t =
+      let kept = take-kept st (told .store) message read read-is (lent .damage) r k (told .tells) first-is numbered t in
+      record { state-ok = kept .0; small = kept .1; found = kept .2; sized = told .sized }
+
+  pub answer-passed : Sized st → k ≡ 0 → (q : Answer) → q ≡ firstOf (takenOf st (lent .store) message) → TakeAnswers st message lent q
+  answer-passed size t q h store out e f d = take-passed st store message read read-is (lent .damage) r k d first-is numbered t size q (rw e h)
+
+-- ---- what is left
+
+module _ (st : State) (store message : Bytes) (read : MessageRead) (read-is : read ≡ readOf message) where
   module _ (a : Answer) (k : ℕ) (answered : a ≡ firstOf (takeInRefusals st store message)) (numbered : k ≡ numberOf a) where
     pub take-in-refused : (k ≡ 0 → ⊥) → Leaves (takeInResult st store message) store [] (record { answer = a; state = st; written = 0 })
     unfolding takeInResult
@@ -197,12 +211,9 @@ module _ (st : State) (store message : Bytes) (read : MessageRead) (read-is : re
       none-refuses : NoneHolds (takeInRefusals st store message)
       none-refuses = none-of (takeInRefusals st store message) a k answered numbered (search needs) z
 
-      pub take-whole : damaged st store ≡ false
-      take-whole = none-refuses .0
-
-      pub may-take-in : Sized st → (low : ℕ) → LowPart st store (partOf message (read .label)) low → MayTakeIn st store message read low
+      pub may-take-in : Sized st → MayTakeIn st store message read
       unfolding readAnswer
-      may-take-in size low front =
+      may-take-in size =
           let n = none-refuses in
           let m = n .1 .1 .1 .1 .1 .1 in
           let accepts : numberOf (readAnswer message) ≡ 0 = rw (n .1 .0, n .1 .1 .0, n .1 .1 .1 .0, n .1 .1 .1 .1 .0, n .1 .1 .1 .1 .1 .0) refl in
@@ -212,20 +223,17 @@ module _ (st : State) (store message : Bytes) (read : MessageRead) (read-is : re
             found = found message read read-is (ap numberOf (ap (λ (x : MessageRead). x .answer) read-is ∙ read-answers message) ∙ accepts);
             passed = ap numberOf (late-is st store (name-length st size (state-kept st store (n .0))) (messageName message) (messageOf message)) ∙ none;
             sized = size;
-            front = front;
           }
 
-      pub take-in-done : (next : State) (store′ : Bytes)
-          → (next ≡ stateOf st (effect clockModel (view st store) (takeIn (messageOf message)))) × (store′ ≡ storeOf st store (effect clockModel (view st store) (takeIn (messageOf message))))
-          → (r : Outcome) → r .answer ≡ Done → r .state ≡ next → r .written ≡ 0 → Leaves (takeInResult st store message) store′ [] r
+      pub take-in-done : (store′ : Bytes) (r : Outcome) → TakenIn st store message store′ r → Leaves (takeInResult st store message) store′ [] r
       unfolding takeInResult
-      take-in-done next store′ left r e f g =
+      take-in-done store′ r t =
           leaves-done st store [] (takeInRefusals st store message) (takeInDone st store message) a k answered numbered z store′ [] r
-          (record { answered = e; state-is = f ∙ left .0; written-is = g; store-is = left .1; out-is = refl })
+          (record { answered = ap (λ (x : Outcome). x .answer) (t .done); state-is = t .left .0; written-is = ap (λ (x : Outcome). x .written) (t .done); store-is = t .left .1; out-is = refl })
 
 -- ---- the work
 
-module _ (st : State) (store s : Bytes) (r : MessageRead) (low : ℕ) (m : MayTakeIn st store s r low) (context : Bytes) (context-is : context ≡ partOf s (r .context)) where
+module _ (st : State) (store s : Bytes) (r : MessageRead) (m : MayTakeIn st store s r) (context : Bytes) (context-is : context ≡ partOf s (r .context)) where
   small : st .used ≤ storeMost
   small =
       let u = undamaged st store (m .whole) in
@@ -257,34 +265,37 @@ module _ (st : State) (store s : Bytes) (r : MessageRead) (low : ℕ) (m : MayTa
           sized = m .sized;
         }
 
-    pub take-low : LowPart st store label low
-    take-low = rw e (m .front)
-
-    pub add-taken : (next : State) (store′ : Bytes)
-        → (next ≡ stateOf st (applied st store label (dotsOf context) (r .dot))) × (store′ ≡ storeOf st store (applied st store label (dotsOf context) (r .dot)))
-        → (next ≡ stateOf st (effect clockModel (view st store) (takeIn (messageOf s)))) × (store′ ≡ storeOf st store (effect clockModel (view st store) (takeIn (messageOf s))))
+    pub add-taken : (q : Outcome) (store′ : Bytes) → TookAdd st store label context (r .dot) store′ q → TakenIn st store s store′ q
     unfolding effect
-    add-taken next store′ left = rw message-is left
+    add-taken q store′ applies = record { done = applies .done; left = rw message-is (applies .left) }
 
   module _ (k : r .kind ≡ addKind → ⊥) where
     message-removes : messageOf s ≡ remove (dotsOf context)
     message-removes = remove-is s r (m .found) context context-is k
 
-    pub take-removes : (stateOk st ≡ true) × ContextFits context × (near windowWidth (st .clock .words) (dotsOf context) ≡ true) × (length (nextTombstone st (dotsOf context)) ≤ tombstoneMost)
+    pub take-removes : MayRemove st context
     take-removes =
         let passed : numberOf (firstOf (takenLate st (length store) (messageName s) (remove (dotsOf context)))) ≡ 0 = rw message-removes at (m .passed) in
         let n = none-holds (takenLate st (length store) (messageName s) (remove (dotsOf context))) (search needs) passed in
-        (state-kept st store (m .whole), removed s r (m .found) context context-is k, not-false _ (n .1 .1 .0), ltb-false _ _ (n .1 .1 .1 .0))
+        record {
+          state-ok = state-kept st store (m .whole);
+          fits = removed s r (m .found) context context-is k;
+          close = not-false _ (n .1 .1 .0);
+          few = ltb-false _ _ (n .1 .1 .1 .0);
+          sized = m .sized;
+        }
 
-    pub remove-taken : (next : State) → next ≡ stateWith st (joinAll windowWidth (st .clock .words) (dotsOf context)) (tombstoneOf (nextTombstone st (dotsOf context))) (st .used)
-        → (next ≡ stateOf st (effect clockModel (view st store) (takeIn (messageOf s)))) × (store ≡ storeOf st store (effect clockModel (view st store) (takeIn (messageOf s))))
+    pub remove-taken : (q : Outcome) → q ≡ doneWith (removedState st (dotsOf context)) → TakenIn st store s store q
     unfolding effect
-    remove-taken next left =
+    remove-taken q is =
         let u = undamaged st store (m .whole) in
         let t = take-removes in
-        let ok = ascending-valid (dotsOf context) (t .1 .ascends) in
-        rw message-removes
-        (left ∙ removed-state st store u (m .sized .words-size) (dotsOf context) ok (t .2), sym (removed-store st store u (m .sized .words-size) (dotsOf context) ok (t .2)))
+        let ok = ascending-valid (dotsOf context) (t .fits .ascends) in
+        subst (λ (x : Outcome). TakenIn st store s store x) (sym is)
+        (record {
+          done = refl;
+          left = rw message-removes (removed-state st store u (m .sized .words-size) (dotsOf context) ok (t .close), sym (removed-store st store u (m .sized .words-size) (dotsOf context) ok (t .close)));
+        })
 
 -- ---- the tests, as the code makes them
 

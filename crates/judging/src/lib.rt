@@ -1,17 +1,16 @@
 // Judging a state and its store: refusal 1, and in the same pass where the keys of a label can stand.
 ghost use mathlib.Core.Path.{_≡_};
-ghost use mathlib.Core.Bool.{true, _&&_};
-ghost use Prim.Native.Nat.{_*_, _≤_};
-ghost use lib.Dec.{eqb, leb};
+ghost use mathlib.Core.Bool.{true};
+ghost use Prim.Native.Nat.{_≤_};
+ghost use lib.Dec.{eqb};
 ghost use lib.ListN.{length, take};
 ghost use Rattle.wire.specs.Lists.{all};
 ghost use Rattle.dots.specs.Names.{nameMost, nameOk};
-ghost use Rattle.dots.specs.Dots.{ascendingDots, tombstoneMost};
-ghost use Rattle.dots.specs.Wire.{dotsOf, dotSize, tombstoneSize};
+ghost use Rattle.dots.specs.Wire.{dotsOf, tombstoneSize};
 ghost use Rattle.clock.specs.Clock.{sees};
 ghost use Rattle.calls.specs.State.{stateFrom, headOf};
-ghost use Rattle.calls.specs.Damage.{zeroFrom, damaged as isDamaged};
-ghost use Rattle.judging.specs.Judging.{stateOk, JudgesStore, Judges};
+ghost use Rattle.calls.specs.Damage.{damaged as isDamaged};
+ghost use Rattle.judging.specs.Judging.{isSetName, isTombstone, stateOk, JudgesStore, Judges};
 
 // Whether every byte is 0.
 fn all_zero(s: &[u8]) -> bool
@@ -44,7 +43,7 @@ fn all_seen(words: &clock::Words, seen: &[u8]) -> bool
 // Whether the first len bytes are a set name, and the others 0.
 fn set_name_ok(bytes: &[u8], len: usize) -> bool
     requires { ⌜ length (now bytes) ≡ nameMost ⌝ }
-    ensures { λ r. ⌜ r ≡ (leb len nameMost && (nameOk (take len (now (bytes .entry))) && zeroFrom len (now (bytes .entry)))) ⌝ }
+    ensures { λ r. ⌜ r ≡ isSetName (now (bytes .entry)) len ⌝ }
 {
     if dots::NAME_MOST < len {
         return false;
@@ -56,7 +55,7 @@ fn set_name_ok(bytes: &[u8], len: usize) -> bool
 // Whether the first count dots are a tombstone of the clock, and the other bytes 0.
 fn tombstone_ok<'a>(words: &'a clock::Words, bytes: &'a [u8], count: usize) -> bool
     requires { ⌜ length (now bytes) ≡ tombstoneSize ⌝ }
-    ensures { λ r. ⌜ r ≡ (leb count tombstoneMost && (ascendingDots (dotsOf (take (count * dotSize) (now (bytes .entry)))) && (all (sees (now (words .entry))) (dotsOf (take (count * dotSize) (now (bytes .entry)))) && zeroFrom (count * dotSize) (now (bytes .entry))))) ⌝ }
+    ensures { λ r. ⌜ r ≡ isTombstone (now (words .entry)) (now (bytes .entry)) count ⌝ }
 {
     if dots::TOMBSTONE_MOST < count {
         return false;
@@ -83,7 +82,7 @@ fn state_ok<'a>(
     ((1 <= own.number) & (own.number <= dots::ACTOR_MOST)) & (named & (rows & removed))
 }
 
-// Whether the store is undamaged, and how many used bytes come before all keys of a label. The pass over the keys asks a copy of the clock on the stack.
+// Whether the store is undamaged, and how many used bytes come before all keys of a label.
 fn judge_store(
     name: calls::SetName,
     used: usize,
@@ -94,10 +93,9 @@ fn judge_store(
     requires { ⌜ (name .len ≤ nameMost) × (nameOk (take (name .len) (name .bytes)) ≡ true) ⌝ }
     ensures { λ r. ⌜ JudgesStore name (now (words .entry)) (now (store .entry)) used (now (label .entry)) r ⌝ }
 {
-    let here = *words;
     let bytes = name.bytes;
     let len = name.len;
-    store::judge(&bytes[..len], &here, store, used, label)
+    store::judge(&bytes[..len], words, store, used, label)
 }
 
 // Refusal 1, and where to look for a label.

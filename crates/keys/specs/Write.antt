@@ -5,7 +5,7 @@ use mathlib.Core.List.{[], _∷_, _++_}
 use mathlib.Core.Path.{_≡_}
 use lib.Dec.{ltb, eqb}
 use lib.ListN.{length, drop}
-use Rattle.wire.specs.Bytes.{Bytes}
+use Rattle.wire.specs.Bytes.{Bytes, putAt}
 use Rattle.dots.specs.Answer.{Refusals, firstOf, numberOf}
 use Rattle.dots.specs.declared.Answer.{Answer}
 use Rattle.dots.specs.declared.Answer.the-variants.{BadName, BadDot, OutputShort}
@@ -21,6 +21,10 @@ writeAnswer k n = firstOf (writeRefusals k n)
 
 abbrev pub writes : Key → ℕ → Bool
 writes k n = eqb (numberOf (writeAnswer k n)) 0
+
+-- k put at the front of out, which becomes out′; r is its length
+abbrev pub KeyPut : Key → Bytes → Bytes → ℕ → Type 0
+KeyPut k out out′ r = (r ≡ length (keyBytes k)) × (out′ ≡ putAt out 0 (keyBytes k))
 
 -- what writing k into `out` leaves: the answer, the count and every byte; refused, nothing is written and the count is 0
 pub record WroteKey (k : Key) (out out′ : Bytes) (r : KeyWritten) : Type 0 where

@@ -8,8 +8,8 @@ ghost use Rattle.wire.specs.Bytes.{byteAt, numberAt, span, putAt};
 ghost use Rattle.keys.specs.declared.KeyKind.the-variants.{ClockKey, LabelKey, EndKey};
 ghost use Rattle.keys.specs.Key.{keyOf, typeByte, hasLabel, hasActor, namesOk, keyCounterOk, keyBytes, suffixSize, prefixFixed};
 ghost use Rattle.keys.specs.Read.{nameLength, isKey, foundKey, noKey, readKey};
-ghost use Rattle.keys.specs.Write.{WroteKey, writeAnswer};
-ghost use Rattle.keys.specs.Parts.{tailLength, frontBytes, tailBytes};
+ghost use Rattle.keys.specs.Write.{KeyPut, WroteKey, writeAnswer};
+ghost use Rattle.keys.specs.Parts.{tailLength, tailBytes, FrontPut};
 ghost use Rattle.keys.specs.Tests.{kindOf, frontOk, labelAfter, actorAfter, endAfter, afterOk};
 
 // Bytes of a label key before its label beside the name, after its label, and in all beside name and label.
@@ -162,7 +162,7 @@ fn write_answer(
 // Puts magic byte, version byte, name, 00 and type byte at the front of out.
 fn put_front(out: &mut [u8], name: &[u8], byte: u8) -> usize
     requires { ⌜ length (now name) + prefixFixed ≤ length (now out) ⌝ }
-    ensures { λ r. ⌜ (r ≡ length (now (name .entry)) + prefixFixed) × (now (out .exit) ≡ putAt (now (out .entry)) 0 (frontBytes (now (name .entry)) byte)) ⌝ }
+    ensures { λ r. ⌜ FrontPut (now (name .entry)) byte (now (out .entry)) (now (out .exit)) r ⌝ }
 {
     let head = [2u8, 1u8];
     let next = moves::put(out, 0, &head);
@@ -223,7 +223,7 @@ fn put_key(
     counter: u64,
 ) -> usize
     requires { ⌜ length (keyBytes (keyOf kind (now name) (now label) actor counter)) ≤ length (now out) ⌝ }
-    ensures { λ r. ⌜ (r ≡ length (keyBytes (keyOf kind (now (name .entry)) (now (label .entry)) actor counter))) × (now (out .exit) ≡ putAt (now (out .entry)) 0 (keyBytes (keyOf kind (now (name .entry)) (now (label .entry)) actor counter))) ⌝ }
+    ensures { λ r. ⌜ KeyPut (keyOf kind (now (name .entry)) (now (label .entry)) actor counter) (now (out .entry)) (now (out .exit)) r ⌝ }
 {
     let byte = type_byte(kind);
     let label_part = kept(has_label(kind), label);

@@ -3,7 +3,7 @@ use mathlib.Core.Path.{_≡_, refl, sym, ap, _∙_}
 use mathlib.Core.Logic.{_⊎_, inl, inr}
 use mathlib.Core.Bool.{Bool, true, false, not, cond, _&&_}
 use mathlib.Core.List.{List, [], _∷_}
-use Prim.Native.Nat.{ℕ, zero, suc, _+_, _-_, _*_, _^_, _≤_, _<_}
+use Prim.Native.Nat.{ℕ, zero, suc, _+_, _-_, _*_, _≤_, _<_}
 use native.Mathlib.Omega.{arith}
 use lib.Dec.{leb, ltb}
 use lib.ListN.{length, take, drop, length-take, drop-of-length-le}
@@ -22,10 +22,9 @@ use Rattle.listing.specs.declared.ListedKey.{ListedKey}
 use Rattle.store.specs.Cut.{keyLength, keysAfter, keyLabel, keyDot, entriesIn}
 use Rattle.store.specs.Valid.{keysFit, storeMost}
 use Rattle.listing.specs.Listing.{liveEntries, linesOfLive, listingBytes}
-use Rattle.listing.specs.Writing.{KeyAt, lineLabel, noLine, longerLine, newLine, isOpen, nextLine, dotWritten}
+use Rattle.listing.specs.Writing.{KeyAt, lineLabel, noLine, longerLine, newLine, LineFits, isOpen, nextLine, DotFits, dotWritten}
 use Rattle.store.proofs.Walk.{first-key, key-size, end-within}
 use Rattle.listing.proofs.OpenLines.{Listed, listed-start, listed-room, listed-end, listed-line, next-label, entry-listed}
-use Rattle.dots.specs.Wire.{dotSize}
 use Rattle.keys.specs.Key.{labelKeyFixed, suffixSize, prefixFixed}
 
 -- ---- the key at a place
@@ -144,9 +143,7 @@ walk-short n keys tombstone at l bytes s h =
 -- one key more
 module _ (n : ℕ) (keys : Bytes) (tombstone : List Dot) (at : ℕ) (l : OpenLine) (bytes : Bytes) (s : Walked n keys tombstone at l bytes) (k : ListedKey) (key : KeyAt n keys tombstone at k) where
   -- the line and the label are such as `next_line` takes
-  pub line-fits : length keys ≤ storeMost
-      → (length keys ≤ storeMost) × (l .from ≤ l .to) × (l .to ≤ length keys) × (k .from ≤ k .to) × (k .to ≤ length keys)
-      × (l .count ≤ storeMost) × (l .bytes ≤ storeMost) × (l .labels ≤ storeMost)
+  pub line-fits : length keys ≤ storeMost → LineFits keys l (k .from) (k .to)
   line-fits most = let b = s .bounded in (most, b .ordered, b .within, omega arith, omega arith, omega arith, omega arith, omega arith)
 
   pub walk-dead : k .live ≡ false → Walked n keys tombstone (k .end) l bytes
@@ -186,9 +183,7 @@ module _ (n : ℕ) (keys : Bytes) (tombstone : List Dot) (at : ℕ) (l : OpenLin
         })
 
     -- what is written has room
-    pub dot-fits : length keys ≤ storeMost → (size : ℕ) → length (listingBytes (linesOfLive tombstone (entriesIn n keys))) ≤ size
-        → (length (partAt keys (k .from) (k .to - k .from)) < 256) × (1 ≤ r .count) × (r .count < 256 ^ 2)
-        × (length (partAt keys (k .from) (k .to - k .from)) + 3 + dotSize * r .count ≤ r .bytes) × (r .bytes ≤ size)
+    pub dot-fits : length keys ≤ storeMost → (size : ℕ) → length (listingBytes (linesOfLive tombstone (entriesIn n keys))) ≤ size → DotFits size (r .bytes) (r .count) (partAt keys (k .from) (k .to - k .from))
     dot-fits most size room =
         let whole = linesOfLive tombstone (entriesIn n keys) in
         let rest = liveEntries tombstone (entriesIn n (drop (k .end) keys)) in

@@ -1,20 +1,18 @@
 // The listing of a label store: its size, its bytes, and whether a stretch has a live key.
 ghost use mathlib.Core.Path.{_≡_};
 ghost use mathlib.Core.Bool.{true, not};
-ghost use mathlib.Core.List.{_++_};
-ghost use Prim.Native.Nat.{_+_, _*_, _^_, _≤_, _<_};
-ghost use lib.ListN.{length, drop};
+ghost use Prim.Native.Nat.{_+_, _^_, _≤_, _<_};
+ghost use lib.ListN.{length};
 ghost use Rattle.wire.specs.Lists.{any, member};
 ghost use Rattle.wire.specs.Bytes.{compareBytes, bigEndian};
 ghost use Rattle.dots.specs.Dots.{compareDots, ascendingDots};
-ghost use Rattle.dots.specs.Wire.{dotsOf, dotSize};
-ghost use Rattle.dots.specs.Entries.{Entry, entry};
-ghost use Rattle.slots.specs.Slots.{Slotted};
+ghost use Rattle.dots.specs.Wire.{dotsOf};
+ghost use Rattle.dots.specs.Entries.{Entry};
 ghost use Rattle.store.specs.Cut.{entriesIn};
-ghost use Rattle.store.specs.Valid.{keysFit, storeMost};
-ghost use Rattle.listing.specs.Listing.{linesOfLive, listingBytes, lineFixed, newLineFixed};
+ghost use Rattle.store.specs.Valid.{keysFit};
+ghost use Rattle.listing.specs.Listing.{newLineFixed, keyLines, CanList, CanWriteListing, IsListingSize, ListingWritten};
 ghost use lib.Dec.{isEq};
-ghost use Rattle.listing.specs.Writing.{KeyAt, nextLine, labelWritten, dotWritten};
+ghost use Rattle.listing.specs.Writing.{CanListKey, KeyAt, LineFits, nextLine, DotFits, labelWritten, dotWritten};
 ghost use Rattle.dots.specs.Names.{nameMost};
 
 // Bytes of a line beside its label and its dots (length, number of dots), and beside its label where it has one dot.
@@ -51,7 +49,7 @@ struct ListedKey {
 
 // The key at a place, with the slots of the tombstone's dots.
 fn listed_key(n: usize, keys: &[u8], tombstone: &[u8], slots: &slots::Slots, at: usize) -> ListedKey
-    requires { ⌜ (n ≤ nameMost) × (at < length (now keys)) × (keysFit n (drop at (now keys)) ≡ true) × (ascendingDots (dotsOf (now tombstone)) ≡ true) × Slotted (dotsOf (now tombstone)) (now slots) ⌝ }
+    requires { ⌜ CanListKey n (now keys) (now tombstone) (now slots) at ⌝ }
     ensures { λ r. ⌜ KeyAt n (now (keys .entry)) (dotsOf (now (tombstone .entry))) at r ⌝ }
 {
     let end = at + store::key_length(n, &keys[at..]);
@@ -97,7 +95,7 @@ fn same_label(a: &[u8], b: &[u8]) -> bool
 // The line after a live key with the label from a place of the keys to another:
 // one dot more where the label is the line's, else a new line.
 fn next_line(keys: &[u8], line: OpenLine, from: usize, to: usize) -> OpenLine
-    requires { ⌜ (length (now keys) ≤ storeMost) × (line .from ≤ line .to) × (line .to ≤ length (now keys)) × (from ≤ to) × (to ≤ length (now keys)) × (line .count ≤ storeMost) × (line .bytes ≤ storeMost) × (line .labels ≤ storeMost) ⌝ }
+    requires { ⌜ LineFits (now keys) line from to ⌝ }
     ensures { λ r. ⌜ r ≡ nextLine (now (keys .entry)) line from to ⌝ }
 {
     let first = line.from;
@@ -123,8 +121,8 @@ fn next_line(keys: &[u8], line: OpenLine, from: usize, to: usize) -> OpenLine
 
 // How long the listing is, and how many labels it has.
 pub fn listing_size(n: usize, keys: &[u8], tombstone: &[u8], slots: &slots::Slots) -> ListingSize
-    requires { ⌜ (n ≤ nameMost) × (length (now keys) ≤ storeMost) × (keysFit n (now keys) ≡ true) × (ascendingDots (dotsOf (now tombstone)) ≡ true) × Slotted (dotsOf (now tombstone)) (now slots) ⌝ }
-    ensures { λ r. ⌜ (r .bytes ≡ length (listingBytes (linesOfLive (dotsOf (now (tombstone .entry))) (entriesIn n (now (keys .entry)))))) × (r .labels ≡ length (linesOfLive (dotsOf (now (tombstone .entry))) (entriesIn n (now (keys .entry))))) ⌝ }
+    requires { ⌜ CanList n (now keys) (now tombstone) (now slots) ⌝ }
+    ensures { λ r. ⌜ IsListingSize (keyLines n (now (keys .entry)) (now (tombstone .entry))) r ⌝ }
 {
     let mut line = OpenLine {
         from: 0,
@@ -170,7 +168,7 @@ fn write_label(out: &mut [u8], end: usize, count: usize, label: &[u8])
 
 // Writes the last dot of a line that ends at a place, the number of its dots, and before the first dot the label.
 fn write_dot(out: &mut [u8], end: usize, count: usize, label: &[u8], dot: dots::Dot)
-    requires { ⌜ (length (now label) < 256) × (1 ≤ count) × (count < 256 ^ 2) × (length (now label) + lineFixed + dotSize * count ≤ end) × (end ≤ length (now out)) ⌝ }
+    requires { ⌜ DotFits (length (now out)) end count (now label) ⌝ }
     ensures { λ _. ⌜ now (out .exit) ≡ dotWritten (now (out .entry)) end count (now (label .entry)) dot ⌝ }
 {
     write_label(out, end, count, label);
@@ -186,8 +184,8 @@ pub fn write_listing(
     slots: &slots::Slots,
     out: &mut [u8],
 ) -> ListingSize
-    requires { ⌜ (n ≤ nameMost) × (length (now keys) ≤ storeMost) × (keysFit n (now keys) ≡ true) × (ascendingDots (dotsOf (now tombstone)) ≡ true) × Slotted (dotsOf (now tombstone)) (now slots) × (length (listingBytes (linesOfLive (dotsOf (now tombstone)) (entriesIn n (now keys)))) ≤ length (now out)) ⌝ }
-    ensures { λ r. ⌜ (r .bytes ≡ length (listingBytes (linesOfLive (dotsOf (now (tombstone .entry))) (entriesIn n (now (keys .entry)))))) × (r .labels ≡ length (linesOfLive (dotsOf (now (tombstone .entry))) (entriesIn n (now (keys .entry))))) × (now (out .exit) ≡ listingBytes (linesOfLive (dotsOf (now (tombstone .entry))) (entriesIn n (now (keys .entry)))) ++ drop (length (listingBytes (linesOfLive (dotsOf (now (tombstone .entry))) (entriesIn n (now (keys .entry)))))) (now (out .entry))) ⌝ }
+    requires { ⌜ CanWriteListing n (now keys) (now tombstone) (now slots) (length (now out)) ⌝ }
+    ensures { λ r. ⌜ ListingWritten (keyLines n (now (keys .entry)) (now (tombstone .entry))) (now (out .entry)) (now (out .exit)) r ⌝ }
 {
     let mut line = OpenLine {
         from: 0,

@@ -7,11 +7,11 @@ ghost use Rattle.wire.specs.Bytes.{putAt};
 ghost use Rattle.dots.specs.Answer.{firstOf};
 ghost use Rattle.dots.specs.Message.{add, remove};
 ghost use Rattle.dots.specs.Wire.{dotBytes, dotsOf, dotSize};
-ghost use Rattle.messages.specs.Message.{namesOk, dotsOk, contextBytes, frontBytes, addFixed, removeFixed, frontFixed};
+ghost use Rattle.messages.specs.Message.{namesOk, dotsOk, frontFixed};
 ghost use Rattle.messages.specs.Read.{countedAt, dotsCountedAt, addLayout, removeLayout, layoutOf, markOk, versionOk, shapeOk, nameAt, messageAt, readAnswer, foundMessage, noMessage, readOf};
 ghost use Rattle.messages.specs.Layouts.{Small, Within, ownDot, fieldRefusals, shapeRefusals};
-ghost use Rattle.messages.specs.Write.{WholeContext, Wrote};
-ghost use Rattle.dots.specs.Names.{labelMost, nameMost};
+ghost use Rattle.messages.specs.Write.{WholeContext, FrontPut, ContextPut, AddFits, RemoveFits, Wrote};
+ghost use Rattle.dots.specs.Names.{nameMost};
 
 // Bytes of a remove beside name and context: mark, version, kind, name length; number of dots.
 pub const REMOVE_FIXED: usize = 8;
@@ -274,7 +274,7 @@ fn put_counted(out: &mut [u8], at: usize, count: u8, field: &[u8]) -> usize
 // Puts mark, version 1, kind and set name at the front.
 fn put_front(out: &mut [u8], kind: u8, name: &[u8]) -> usize
     requires { ⌜ (length (now name) ≤ nameMost) × (length (now name) + frontFixed ≤ length (now out)) ⌝ }
-    ensures { λ r. ⌜ (r ≡ frontFixed + length (now (name .entry))) × (now (out .exit) ≡ putAt (now (out .entry)) 0 (frontBytes kind (now (name .entry)))) ⌝ }
+    ensures { λ r. ⌜ FrontPut kind (now (name .entry)) (now (out .entry)) (now (out .exit)) r ⌝ }
 {
     let head = [b'P', b'T', b'L', 0, 1, kind];
     let at = moves::put(out, 0, &head);
@@ -293,14 +293,14 @@ fn put_dot(out: &mut [u8], at: usize, dot: dots::Dot) -> usize
 // Puts the number of dots of a context, and the context.
 fn put_context(out: &mut [u8], at: usize, context: &[u8]) -> usize
     requires { ⌜ WholeContext (now context) × (at + 1 + length (now context) ≤ length (now out)) ⌝ }
-    ensures { λ r. ⌜ (r ≡ at + 1 + length (now (context .entry))) × (now (out .exit) ≡ putAt (now (out .entry)) at (contextBytes (dotsOf (now (context .entry))))) ⌝ }
+    ensures { λ r. ⌜ ContextPut (now (context .entry)) at (now (out .entry)) (now (out .exit)) r ⌝ }
 {
     put_counted(out, at, (context.len() / dots::DOT_SIZE) as u8, context)
 }
 
 // Writes an add message at the front of out. Returns its length.
 pub fn write_add(name: &[u8], label: &[u8], dot: dots::Dot, context: &[u8], out: &mut [u8]) -> usize
-    requires { ⌜ (length (now name) ≤ nameMost) × (length (now label) ≤ labelMost) × WholeContext (now context) × (length (now name) + length (now label) + length (now context) + addFixed ≤ length (now out)) ⌝ }
+    requires { ⌜ AddFits (now name) (now label) (now context) (length (now out)) ⌝ }
     ensures { λ r. ⌜ Wrote (now (name .entry)) (add (now (label .entry)) dot (dotsOf (now (context .entry)))) (now (out .entry)) (now (out .exit)) r ⌝ }
 {
     let label_at = put_front(out, b'a', name);
@@ -311,7 +311,7 @@ pub fn write_add(name: &[u8], label: &[u8], dot: dots::Dot, context: &[u8], out:
 
 // Writes a remove message at the front of out. Returns its length.
 pub fn write_remove(name: &[u8], context: &[u8], out: &mut [u8]) -> usize
-    requires { ⌜ (length (now name) ≤ nameMost) × WholeContext (now context) × (length (now name) + length (now context) + removeFixed ≤ length (now out)) ⌝ }
+    requires { ⌜ RemoveFits (now name) (now context) (length (now out)) ⌝ }
     ensures { λ r. ⌜ Wrote (now (name .entry)) (remove (dotsOf (now (context .entry)))) (now (out .entry)) (now (out .exit)) r ⌝ }
 {
     let context_at = put_front(out, b'r', name);

@@ -44,7 +44,7 @@ use Rattle.messages.specs.Write.{Wrote}
 use Rattle.calls.specs.Effect.{stateOf, storeOf}
 use Rattle.dots.specs.Names.{labelMost, nameMost}
 use Rattle.keys.specs.Key.{labelKeyFixed}
-use Rattle.own.specs.declared.Lent.{Lent}
+use Rattle.steps.specs.declared.Lent.{Lent}
 
 -- how long the message is
 add-size : (st : State) (label context : Bytes) (d : Dot) → Sized st → stateOk st ≡ true → ContextFits context

@@ -28,11 +28,11 @@ use Rattle.calls.specs.Calls.{ownRemoveRefusals, removeWritten, ownRemoveDone, 
 use Rattle.calls.specs.Promise.{Leaves}
 use Rattle.steps.specs.Tests.{ContextFits, lateRefusals, removeLate}
 use Rattle.judging.specs.Judging.{stateOk}
-use Rattle.own.specs.Work.{removeEarly, RemoveAnswers, MayRemove, Removed}
+use Rattle.own.specs.Work.{removeEarly, RemoveAnswers, MayWriteRemove, Removed}
 use Rattle.calls.proofs.Clauses.{undamaged}
 use Rattle.steps.proofs.Performed.{removed-state, removed-store}
 use Rattle.steps.proofs.Answers.{stops, none-of, passes, leaves-refused, leaves-done, state-kept, dots-many, context-fits, kept}
-use Rattle.own.specs.declared.Lent.{Lent}
+use Rattle.steps.specs.declared.Lent.{Lent}
 
 -- ---- own remove
 
@@ -86,7 +86,7 @@ module _ (st : State) (store context out : Bytes) (a : Answer) (k : ℕ) (answer
     passed-all : NoneHolds (ownRemoveRefusals st store context out)
     passed-all = none-holds (ownRemoveRefusals st store context out) (search needs) (sym (numbered ∙ ap numberOf answered) ∙ z)
 
-    pub may-remove : Sized st → MayRemove st context (length out)
+    pub may-remove : Sized st → MayWriteRemove st context (length out)
     unfolding effect apply view
     may-remove size =
         let passed = passed-all in
@@ -94,11 +94,7 @@ module _ (st : State) (store context out : Bytes) (a : Answer) (k : ℕ) (answer
         let fits = context-fits context (passed .1 .0) in
         let room : length (removeWritten st store context out) ≤ length out = ltb-false _ _ (passed .1 .1 .1 .1 .1 .0) in
         record {
-          state-ok = ok;
-          fits = fits;
-          close = not-false _ (passed .1 .1 .1 .0);
-          few = ltb-false _ _ (passed .1 .1 .1 .1 .0);
-          sized = size;
+          applies = record { state-ok = ok; fits = fits; close = not-false _ (passed .1 .1 .1 .0); few = ltb-false _ _ (passed .1 .1 .1 .1 .0); sized = size };
           room-for = omega (arith, room, remove-size st context size ok fits);
         }
 
@@ -107,7 +103,7 @@ module _ (st : State) (store context out : Bytes) (a : Answer) (k : ℕ) (answer
     unfolding ownRemoveResult
     own-remove-done size out′ r left =
         let words = size .words-size in
-        let may = may-remove size in
+        let may = may-remove size .applies in
         let u = undamaged st store (passed-all .0) in
         let ok = ascending-valid (dotsOf context) (may .fits .ascends) in
         leaves-done st store out (ownRemoveRefusals st store context out) (ownRemoveDone st store context out) a k answered numbered z store out′ r

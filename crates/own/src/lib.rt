@@ -3,28 +3,18 @@ ghost use mathlib.Core.Path.{_≡_};
 ghost use mathlib.Core.Bool.{false};
 ghost use Prim.Native.Nat.{_+_, _≤_};
 ghost use lib.ListN.{length, take};
+ghost use Rattle.wire.specs.Loans.{before, after};
 ghost use Rattle.dots.specs.Answer.{firstOf};
 ghost use Rattle.dots.specs.Dots.{maxCounter, dotOf};
-ghost use Rattle.dots.specs.Wire.{dotsOf, tombstoneSize};
+ghost use Rattle.dots.specs.Wire.{dotsOf};
 ghost use Rattle.clock.specs.Clock.{rowAt};
 ghost use Rattle.dots.specs.Message.{add, remove};
-ghost use Rattle.messages.specs.Write.{WholeContext, Wrote};
-ghost use Rattle.calls.specs.Damage.{damaged as isDamaged};
-ghost use Rattle.steps.specs.Tests.{earlyRefusals};
+ghost use Rattle.messages.specs.Write.{Wrote};
+ghost use Rattle.steps.specs.Tests.{Told};
 ghost use Rattle.calls.specs.State.{stateFrom};
-ghost use Rattle.own.specs.Work.{addEarly, removeEarly, Told, AddAnswers, RemoveAnswers, MayAdd, Added, MayRemove, Removed};
-ghost use Rattle.calls.specs.Refusals.{badContext, ownAhead};
-ghost use Rattle.calls.specs.Calls.{ownAddResult, ownRemoveResult, ownAddRefusals, ownRemoveRefusals};
+ghost use Rattle.own.specs.Work.{addEarly, removeEarly, AddAnswers, RemoveAnswers, MayPutAdd, WroteAdd, MayPutRemove, MayAdd, Added, MayWriteRemove, Removed};
+ghost use Rattle.calls.specs.Calls.{ownAddResult, ownRemoveResult};
 ghost use Rattle.calls.specs.Promise.{Leaves};
-ghost use Rattle.dots.specs.Names.{labelMost, nameMost};
-ghost use Rattle.messages.specs.Message.{addFixed, removeFixed};
-
-// The lengths of the store and of the output that are lent to a call, and whether refusal 1 holds.
-struct Lent {
-    store: usize,
-    out: usize,
-    damage: bool,
-}
 
 // ---- the messages
 
@@ -37,16 +27,16 @@ fn put_add(
     context: &[u8],
     out: &mut [u8],
 ) -> usize
-    requires { ⌜ (len ≤ nameMost) × (len ≤ length (now name)) × (length (now label) ≤ labelMost) × WholeContext (now context) × (len + length (now label) + length (now context) + addFixed ≤ length (now out)) ⌝ }
-    ensures { λ r. ⌜ Wrote (take len (now (name .entry))) (add (now (label .entry)) dot (dotsOf (now (context .entry)))) (now (out .entry)) (now (out .exit)) r ⌝ }
+    requires { ⌜ MayPutAdd (now name) len (now label) (now context) (length (now out)) ⌝ }
+    ensures { λ r. ⌜ WroteAdd (take len (before name)) (before label) dot (before context) (before out) (after out) r ⌝ }
 {
     messages::write_add(&name[..len], label, dot, context, out)
 }
 
 // Writes the remove message of a set whose name is the first len bytes.
 fn put_remove(name: &[u8], len: usize, context: &[u8], out: &mut [u8]) -> usize
-    requires { ⌜ (len ≤ nameMost) × (len ≤ length (now name)) × WholeContext (now context) × (len + length (now context) + removeFixed ≤ length (now out)) ⌝ }
-    ensures { λ r. ⌜ Wrote (take len (now (name .entry))) (remove (dotsOf (now (context .entry)))) (now (out .entry)) (now (out .exit)) r ⌝ }
+    requires { ⌜ MayPutRemove (now name) len (now context) (length (now out)) ⌝ }
+    ensures { λ r. ⌜ Wrote (take len (before name)) (remove (dotsOf (before context))) (before out) (after out) r ⌝ }
 {
     messages::write_remove(&name[..len], context, out)
 }
@@ -56,7 +46,7 @@ fn put_remove(name: &[u8], len: usize, context: &[u8], out: &mut [u8]) -> usize
 // The dot that an own add takes.
 fn next_dot(own: dots::Actor, words: &clock::Words) -> dots::Dot
     requires { ⌜ rowAt (now words) (own .number) .base + 1 ≤ maxCounter ⌝ }
-    ensures { λ r. ⌜ r ≡ dotOf own (rowAt (now (words .entry)) (own .number) .base + 1) ⌝ }
+    ensures { λ r. ⌜ r ≡ dotOf own (rowAt (before words) (own .number) .base + 1) ⌝ }
 {
     let base = steps::own_base(words, own);
     dots::Dot {
@@ -73,7 +63,7 @@ fn add_early(
     context: &[u8],
     damage: bool,
 ) -> dots::Answer
-    ensures { λ r. ⌜ r ≡ firstOf (addEarly damage own (now (words .entry)) (now (label .entry)) (now (context .entry))) ⌝ }
+    ensures { λ r. ⌜ r ≡ firstOf (addEarly damage own (before words) (before label) (before context)) ⌝ }
 {
     let base = steps::own_base(words, own);
     let named = dots::label_ok(label);
@@ -90,10 +80,10 @@ fn add_answer<'a>(
     tombstone: &'a [u8; dots::TOMBSTONE_SIZE],
     label: &[u8],
     context: &[u8],
-    lent: Lent,
+    lent: steps::Lent,
 ) -> dots::Answer
     requires { ⌜ Told (stateFrom head (now words) (now tombstone)) lent ⌝ }
-    ensures { λ r. ⌜ AddAnswers (stateFrom head (now (words .entry)) (now (tombstone .entry))) (now (label .entry)) (now (context .entry)) lent r ⌝ }
+    ensures { λ r. ⌜ AddAnswers (stateFrom head (before words) (before tombstone)) (before label) (before context) lent r ⌝ }
 {
     let own = head.actor;
     let early = add_early(own, words, label, context, lent.damage);
@@ -103,7 +93,11 @@ fn add_answer<'a>(
     let dot = next_dot(own, words);
     let short = lent.out < head.name.len + label.len() + context.len() + messages::ADD_FIXED;
     let crowded = lent.store < head.used + (head.name.len + label.len() + keys::LABEL_KEY_FIXED);
-    steps::add_late(words, tombstone, head.count, context, dot, crowded, short)
+    let room = steps::Room {
+        crowded: crowded,
+        short: short,
+    };
+    steps::add_late(words, tombstone, head.count, context, dot, room)
 }
 
 // Writes the add message, and applies the add. The label's keys do not stand in the first `low` bytes.
@@ -116,24 +110,27 @@ fn add_done(
     low: usize,
 ) -> calls::Outcome
     requires { ⌜ MayAdd state (now store) (now label) (now context) (length (now out)) low ⌝ }
-    ensures { λ r. ⌜ Added state (now (store .entry)) (now (label .entry)) (now (context .entry)) (now (out .entry)) (now (store .exit)) (now (out .exit)) r ⌝ }
+    ensures { λ r. ⌜ Added state (before store) (before label) (before context) (before out) (after store) (after out) r ⌝ }
 {
-    let name = state.name.bytes;
-    let seen = state.clock.words;
-    let dot = next_dot(state.actor, &seen);
-    let written = put_add(&name, state.name.len, label, dot, context, out);
-    let used = steps::put_entry(store, state.used, &name, state.name.len, label, dot, low);
-    let mut words = state.clock.words;
-    let mut bytes = state.tombstone.bytes;
-    let count = steps::tombstone_with_context(&seen, &mut bytes, state.tombstone.count, context);
-    clock::join_with_dot(&mut words, context, dot);
     let actor = state.actor;
-    let named = state.name;
+    let name = state.name;
+    let mut words = state.clock.words;
+    let dot = next_dot(actor, &words);
+    let written = put_add(&name.bytes, name.len, label, dot, context, out);
+    let head = calls::Head {
+        name: name,
+        count: state.tombstone.count,
+        used: state.used,
+        actor: actor,
+    };
+    let used = steps::store_add(head, &words, store, label, dot, low);
+    let mut bytes = state.tombstone.bytes;
+    let count = steps::join_add(&mut words, &mut bytes, head.count, context, dot);
     calls::Outcome {
         answer: dots::Answer::Done,
         state: calls::State {
             actor: actor,
-            name: named,
+            name: name,
             clock: clock::Clock { words: words },
             tombstone: calls::Tombstone {
                 bytes: bytes,
@@ -153,7 +150,7 @@ pub fn own_add(
     context: &[u8],
     out: &mut [u8],
 ) -> calls::Outcome
-    ensures { λ r. ⌜ Leaves (ownAddResult state (now (store .entry)) (now (label .entry)) (now (context .entry)) (now (out .entry))) (now (store .exit)) (now (out .exit)) r ⌝ }
+    ensures { λ r. ⌜ Leaves (ownAddResult state (before store) (before label) (before context) (before out)) (after store) (after out) r ⌝ }
 {
     let head = judging::head_of(state);
     let judged = judging::judge(
@@ -163,7 +160,7 @@ pub fn own_add(
         store,
         label,
     );
-    let lent = Lent {
+    let lent = steps::Lent {
         store: store.len(),
         out: out.len(),
         damage: store::is_damage(judged),
@@ -195,7 +192,7 @@ fn remove_early(
     context: &[u8],
     damage: bool,
 ) -> dots::Answer
-    ensures { λ r. ⌜ r ≡ firstOf (removeEarly damage own (now (words .entry)) (now (context .entry))) ⌝ }
+    ensures { λ r. ⌜ r ≡ firstOf (removeEarly damage own (before words) (before context)) ⌝ }
 {
     let base = steps::own_base(words, own);
     let dot = steps::context_bad(context);
@@ -209,10 +206,10 @@ fn remove_answer<'a>(
     words: &'a clock::Words,
     tombstone: &'a [u8; dots::TOMBSTONE_SIZE],
     context: &[u8],
-    lent: Lent,
+    lent: steps::Lent,
 ) -> dots::Answer
     requires { ⌜ Told (stateFrom head (now words) (now tombstone)) lent ⌝ }
-    ensures { λ r. ⌜ RemoveAnswers (stateFrom head (now (words .entry)) (now (tombstone .entry))) (now (context .entry)) lent r ⌝ }
+    ensures { λ r. ⌜ RemoveAnswers (stateFrom head (before words) (before tombstone)) (before context) lent r ⌝ }
 {
     let early = remove_early(head.actor, words, context, lent.damage);
     if dots::number_of(early) != 0 {
@@ -222,25 +219,22 @@ fn remove_answer<'a>(
     steps::remove_late(words, tombstone, head.count, context, short)
 }
 
-// Applies a context and writes the remove message.
+// Writes the remove message, and applies the context.
 fn remove_done(state: calls::State, context: &[u8], out: &mut [u8]) -> calls::Outcome
-    requires { ⌜ MayRemove state (now context) (length (now out)) ⌝ }
-    ensures { λ r. ⌜ Removed state (now (context .entry)) (now (out .entry)) (now (out .exit)) r ⌝ }
+    requires { ⌜ MayWriteRemove state (now context) (length (now out)) ⌝ }
+    ensures { λ r. ⌜ Removed state (before context) (before out) (after out) r ⌝ }
 {
-    let name = state.name.bytes;
-    let written = put_remove(&name, state.name.len, context, out);
-    let seen = state.clock.words;
+    let actor = state.actor;
+    let name = state.name;
+    let written = put_remove(&name.bytes, name.len, context, out);
     let mut words = state.clock.words;
     let mut bytes = state.tombstone.bytes;
-    let count = steps::tombstone_with_context(&seen, &mut bytes, state.tombstone.count, context);
-    clock::join_context(&mut words, context);
-    let actor = state.actor;
-    let named = state.name;
+    let count = steps::join_context(&mut words, &mut bytes, state.tombstone.count, context);
     calls::Outcome {
         answer: dots::Answer::Done,
         state: calls::State {
             actor: actor,
-            name: named,
+            name: name,
             clock: clock::Clock { words: words },
             tombstone: calls::Tombstone {
                 bytes: bytes,
@@ -259,11 +253,11 @@ pub fn own_remove(
     context: &[u8],
     out: &mut [u8],
 ) -> calls::Outcome
-    ensures { λ r. ⌜ Leaves (ownRemoveResult state (now (store .entry)) (now (context .entry)) (now (out .entry))) (now (store .entry)) (now (out .exit)) r ⌝ }
+    ensures { λ r. ⌜ Leaves (ownRemoveResult state (before store) (before context) (before out)) (before store) (after out) r ⌝ }
 {
     let head = judging::head_of(state);
     let damage = judging::damaged(head, &state.clock.words, &state.tombstone.bytes, store);
-    let lent = Lent {
+    let lent = steps::Lent {
         store: store.len(),
         out: out.len(),
         damage: damage,

@@ -1,33 +1,20 @@
 // The calls that only read: listing and lookup.
 ghost use mathlib.Core.Path.{_≡_};
-ghost use mathlib.Core.Bool.{true, not, false};
-ghost use mathlib.Core.List.{_++_};
-ghost use Prim.Native.Nat.{_*_, _≤_};
-ghost use lib.ListN.{length, take};
-ghost use Rattle.wire.specs.Lists.{any, member};
+ghost use mathlib.Core.Bool.{false};
 ghost use Rattle.dots.specs.Answer.{firstOf, numberOf};
-ghost use Rattle.dots.specs.Names.{nameOk, labelOk, nameMost};
-ghost use Rattle.dots.specs.Dots.{compareDots, ascendingDots, tombstoneMost};
-ghost use Rattle.dots.specs.Wire.{dotsOf, dotSize};
-ghost use Rattle.dots.specs.Entries.{Entry};
-ghost use Rattle.store.specs.Place.{stretchStart, stretchEnd, Passed};
-ghost use Rattle.keys.specs.Entry.{prefix};
-ghost use Rattle.store.specs.Valid.{storeMost, keysFit};
+ghost use Rattle.listing.specs.Listing.{keyLines};
 ghost use Rattle.steps.specs.Tests.{earlyRefusals};
 ghost use Rattle.calls.specs.Refusals.{badLabel};
 ghost use Rattle.calls.specs.Calls.{listResult};
 ghost use Rattle.calls.specs.Promise.{Lists, LooksUp};
-ghost use Rattle.wire.specs.Bytes.{IsPart};
-ghost use Rattle.store.specs.Cut.{entriesIn};
-ghost use Rattle.listing.specs.Listing.{linesOfLive};
-ghost use Rattle.reads.specs.Reads.{Readable, linesIn, ListsLines};
+ghost use Rattle.reads.specs.Reads.{ListableKeys, Readable, linesIn, ListsLines, Searchable, IsStretch, LiveTestable, anyLive};
 
 // ---- listing
 
 // Lists keys end to end: refusal 13, or their lines put out.
 fn list_keys(n: usize, keys: &[u8], tombstone: &[u8], out: &mut [u8]) -> calls::Listed
-    requires { ⌜ (n ≤ nameMost) × (length (now keys) ≤ storeMost) × (keysFit n (now keys) ≡ true) × (ascendingDots (dotsOf (now tombstone)) ≡ true) ⌝ }
-    ensures { λ r. ⌜ ListsLines (linesOfLive (dotsOf (now (tombstone .entry))) (entriesIn n (now (keys .entry)))) (now (out .entry)) (now (out .exit)) r ⌝ }
+    requires { ⌜ ListableKeys n (now keys) (now tombstone) ⌝ }
+    ensures { λ r. ⌜ ListsLines (keyLines n (now (keys .entry)) (now (tombstone .entry))) (now (out .entry)) (now (out .exit)) r ⌝ }
 {
     let mut slots = [0u8; slots::SLOTS];
     slots::fill_slots(tombstone, &mut slots);
@@ -95,16 +82,16 @@ fn used_stretch<'a, 'b>(
     label: &'b [u8],
     low: usize,
 ) -> &'a [u8]
-    requires { ⌜ (used ≤ length (now store)) × (len ≤ length (now name)) × (nameOk (take len (now name)) ≡ true) × (labelOk (now label) ≡ true) × Passed (length (take len (now name))) (prefix (take len (now name)) ++ now label) (take used (now store)) low ⌝ }
-    ensures { λ r. ⌜ IsPart (store .entry) (stretchStart (take len (now (name .entry))) (now (label .entry)) (take used (now (store .entry)))) (stretchEnd (take len (now (name .entry))) (now (label .entry)) (take used (now (store .entry)))) r ⌝ }
+    requires { ⌜ Searchable (now store) used (now name) len (now label) low ⌝ }
+    ensures { λ r. ⌜ IsStretch (store .entry) used (now (name .entry)) len (now (label .entry)) r ⌝ }
 {
     store::stretch(&store[..used], &name[..len], label, low)
 }
 
 // Whether some key's dot is not in the tombstone.
 fn any_listed(n: usize, keys: &[u8], tombstone: calls::Tombstone) -> bool
-    requires { ⌜ (n ≤ nameMost) × (keysFit n (now keys) ≡ true) × (tombstone .count ≤ tombstoneMost) × (ascendingDots (dotsOf (take (tombstone .count * dotSize) (tombstone .bytes))) ≡ true) ⌝ }
-    ensures { λ r. ⌜ r ≡ any (λ (e : Entry). not (member compareDots (e .dot) (dotsOf (take (tombstone .count * dotSize) (tombstone .bytes))))) (entriesIn n (now (keys .entry))) ⌝ }
+    requires { ⌜ LiveTestable n (now keys) tombstone ⌝ }
+    ensures { λ r. ⌜ r ≡ anyLive n (now (keys .entry)) tombstone ⌝ }
 {
     let bytes = tombstone.bytes;
     let size = tombstone.count * dots::DOT_SIZE;

@@ -9,7 +9,7 @@ use lib.ListN.{length, getD}
 use mir.Val.{Fits}
 use mir.Syntax.{w8}
 use borrow.Author.Tests.{eqb-true, eq-eqb, ne-eqb, leb-true, not-false}
-use Rattle.wire.specs.Lists.{any, member}
+use Rattle.wire.specs.Lists.{member}
 use Rattle.wire.specs.Bytes.{Bytes}
 use Rattle.wire.proofs.Tests.{both, neither}
 use Rattle.dots.specs.declared.Answer.{Answer}
@@ -21,17 +21,17 @@ use Rattle.dots.specs.Wire.{wholeDots, dotsOf, dotSize}
 use Rattle.dots.proofs.Table.{Refuses, NoneHolds, none-holds}
 use Rattle.dots.proofs.Loops.{length-dotsAt}
 use Rattle.clock.specs.Row.{windowWidth}
-use Rattle.clock.specs.Clock.{rowAt, rowsOk, clockOk}
+use Rattle.clock.specs.Clock.{rowsOk, clockOk}
 use Rattle.clock.specs.Reach.{Offer, OfferWith}
 use Rattle.calls.specs.declared.State.{State}
 use Rattle.calls.specs.declared.Tombstone.{Tombstone}
 use Rattle.calls.specs.declared.Outcome.{Outcome}
-use Rattle.calls.specs.State.{nameOf, tombstoneDots, view, Sized}
+use Rattle.calls.specs.State.{nameOf, tombstoneDots, Sized}
 use Rattle.calls.specs.Damage.{zeroFrom, stateNameOk, tombstoneOk, damaged}
-use Rattle.calls.specs.Refusals.{badContext, ownAhead}
+use Rattle.calls.specs.Refusals.{badContext}
 use Rattle.calls.specs.Calls.{Result, refused, decided}
 use Rattle.calls.specs.Promise.{Leaves}
-use Rattle.steps.specs.Tests.{aheadOf, stateWith, Tombstoned, Padded, ContextFits}
+use Rattle.steps.specs.Tests.{stateWith, Tombstoned, Padded, ContextFits}
 use Rattle.judging.specs.Judging.{stateOk}
 use Rattle.judging.proofs.DamageTest.{damaged-is}
 use Rattle.steps.proofs.Performed.{tombstone-padded}
@@ -78,18 +78,8 @@ module _ (st : State) (store out : Bytes) (rs : Refusals) (done : Result) (a : A
       let whole : decided st store out rs done ≡ done = ap (λ (b : Bool). cond b done (refused st store out (firstOf rs))) yes in
       subst (λ (x : Result). Leaves x store′ out′ r) (sym whole) left
 
--- the tests, as the code makes them
-pub ahead-is : (st : State) (store : Bytes) (base : ℕ) (ds : List Dot) → base ≡ rowAt (st .clock .words) (st .actor .number) .base → any (aheadOf (st .actor) base) ds ≡ ownAhead st store ds
-unfolding view
-ahead-is st store base ds e = ap (λ (b : ℕ). any (aheadOf (st .actor) b) ds) e
-
 pub with-parts : (st : State) (words words′ : List ℕ) (t t′ : Tombstone) (used : ℕ) (r : State) → words ≡ words′ → t ≡ t′ → r ≡ stateWith st words t used → r ≡ stateWith st words′ t′ used
 with-parts st words words′ t t′ used r e f g = g ∙ rw (e, f)
-
--- a state made of parts of another and of its own clock and tombstone
-pub parts-made : (st : State) (words words′ : List ℕ) (bytes : Bytes) (count used : ℕ) (t : Tombstone) → words ≡ words′ → _≡_ {A = Tombstone} (record { bytes = bytes; count = count }) t
-    → _≡_ {A = State} (record { actor = st .actor; name = st .name; clock = record { words = words }; tombstone = record { bytes = bytes; count = count }; used = used }) (stateWith st words′ t used)
-parts-made st words words′ bytes count used t e f = with-parts st words words′ (record { bytes = bytes; count = count }) t used _ e f refl
 
 -- ---- what the first refusals leave
 

@@ -8,6 +8,7 @@ use Rattle.wire.specs.Bytes.{Bytes, zeroAt, numberAt}
 use Rattle.dots.specs.Names.{Name}
 use Rattle.keys.specs.Tests.{labelAfter, entryAfter}
 use Rattle.clock.specs.Clock.{sees}
+use Rattle.store.specs.declared.KeyTail.{KeyTail}
 use Rattle.store.specs.Cut.{keyLength}
 use Rattle.store.specs.Valid.{keyOk}
 use Rattle.keys.specs.Key.{suffixSize}
@@ -29,3 +30,10 @@ pub record FirstNumbers (bytes : Bytes) (from to word half : ℕ) : Type 0 where
   pub long : from < to → from + 12 ≤ to
   pub first : word ≡ numberAt 8 (take (to - from) (drop from bytes)) 0
   pub second : half ≡ numberAt 4 (take (to - from) (drop from bytes)) 8
+
+-- the bytes of a key from its label on, as the pass carries them: where they stand and their first numbers
+abbrev pub TailIn : Bytes → KeyTail → Type 0
+TailIn keys t = FirstNumbers keys (t .from) (t .end) (t .word) (t .half)
+
+abbrev pub tailOf : Bytes → KeyTail → Bytes
+tailOf keys t = take (t .end - t .from) (drop (t .from) keys)

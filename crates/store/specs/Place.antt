@@ -5,13 +5,16 @@ use mathlib.Core.List.{List, [], _∷_, _++_}
 use mathlib.Core.Path.{_≡_}
 use lib.ListN.{length, take, drop, replicate}
 use Rattle.wire.specs.Lists.{isLt, all}
-use Rattle.wire.specs.Bytes.{Bytes, compareBytes, startsWith, insertedAt, fromBigEndian}
-use Rattle.dots.specs.Names.{Name, Label}
+use denote.Ref.{RefT}
+use Rattle.wire.specs.Bytes.{Bytes, compareBytes, startsWith, putAt, insertedAt, fromBigEndian, IsPart}
+use Rattle.dots.specs.Names.{Name, Label, nameOk, labelOk}
 use Rattle.dots.specs.Entries.{Entry}
 use Rattle.keys.specs.Entry.{prefix, entryKey}
+use Rattle.keys.specs.Key.{labelKeyFixed, prefixFixed}
 use Rattle.store.specs.declared.Judgement.{Judgement}
 use Rattle.store.specs.declared.Judgement.the-variants.{Damaged, Sound}
 use Rattle.store.specs.Cut.{endToEnd, keysOf}
+use Rattle.store.specs.Valid.{usedOk, storeOk}
 
 -- how many bytes the keys at the front take that pass a test
 unfoldable pub lengthWhile : (Bytes → Bool) → List Bytes → ℕ
@@ -40,6 +43,21 @@ pub record Passed (n : ℕ) (start keys : Bytes) (k : ℕ) : Type 0 where
   pub placed : (tail : Bytes) → placeIn (start ++ tail) (keysOf n keys) ≡ k + placeIn (start ++ tail) (keysOf n (drop k keys))
   pub rest : (test : Bytes → Bool) → all test (keysOf n keys) ≡ true → all test (keysOf n (drop k keys)) ≡ true
 
+-- the same of all keys of a label
+abbrev pub LabelPassed : Name → Label → Bytes → ℕ → Type 0
+LabelPassed name label keys low = Passed (length name) (prefix name ++ label) keys low
+
+-- the first `low` bytes come before a key: its place is that among the keys from there on
+pub record PlacePast (n : ℕ) (keys key : Bytes) (low : ℕ) : Type 0 where
+  pub within : low ≤ length keys
+  pub placed : placeIn key (keysOf n keys) ≡ low + placeIn key (keysOf n (drop low keys))
+
+-- and these all begin as the key does, up to the label
+pub record PlaceAmongAlike (n : ℕ) (keys key : Bytes) (low : ℕ) : Type 0 where
+  pub long : n + 12 ≤ length key
+  pub past : PlacePast n keys key low
+  pub alike : all (startsWith (take (n + prefixFixed) key)) (keysOf n (drop low keys)) ≡ true
+
 -- a judgement: whether it is no damage, and how many bytes at the front it tells of
 abbrev pub isSound : Judgement → Bool
 isSound Damaged = false
@@ -54,6 +72,13 @@ pub record Judged (ok : Bool) (n : ℕ) (start keys : Bytes) (r : Judgement) : T
   pub found : isSound r ≡ ok
   pub passed : ok ≡ true → Passed n start keys (frontOf r)
 
+-- the same of keys of a set, and of a store, and a label
+abbrev pub KeysJudged : Name → List ℕ → Bytes → Label → Judgement → Type 0
+KeysJudged name words keys label r = Judged (usedOk name words keys) (length name) (prefix name ++ label) keys r
+
+abbrev pub StoreJudged : Name → List ℕ → Bytes → ℕ → Label → Judgement → Type 0
+StoreJudged name words store used label r = Judged (storeOk name words store used) (length name) (prefix name ++ label) (take used store) r
+
 -- the first 8 bytes of a label, with 0s after a shorter one, and the number in them
 abbrev pub firstEight : Label → Bytes
 firstEight label = take 8 label ++ replicate (8 - length label) 0
@@ -65,15 +90,50 @@ labelNumber label = fromBigEndian (firstEight label)
 unfoldable pub labelStart : Name → Label → Bytes
 labelStart name label = prefix name ++ (label ++ (0 ∷ []))
 
+-- where the keys from a place on end that begin with `start`
+abbrev pub endFrom : ℕ → Bytes → Bytes → ℕ → ℕ
+endFrom n bytes start at = at + lengthWhile (startsWith start) (keysOf n (drop at bytes))
+
 -- the stretch of a label's keys, "dead ones included (empty, at the place they would go, if there are none)"
 unfoldable pub stretchStart : Name → Label → Bytes → ℕ
 stretchStart name label bytes = placeIn (labelStart name label) (keysOf (length name) bytes)
 
 unfoldable pub stretchEnd : Name → Label → Bytes → ℕ
-stretchEnd name label bytes =
-    let at = stretchStart name label bytes in
-    at + lengthWhile (startsWith (labelStart name label)) (keysOf (length name) (drop at bytes))
+stretchEnd name label bytes = endFrom (length name) bytes (labelStart name label) (stretchStart name label bytes)
 
--- the store with the key of an entry in its place among the first `used` bytes
+-- r is the very stretch of keys that begin with `start`, and of a label's keys
+abbrev pub IsStretchFrom : ℕ → RefT Bytes → Bytes → RefT Bytes → Type 0
+IsStretchFrom n keys start r = let at = placeIn start (keysOf n (keys .now)) in IsPart keys at (endFrom n (keys .now) start at) r
+
+abbrev pub IsStretch : Name → Label → RefT Bytes → RefT Bytes → Type 0
+IsStretch name label keys r = IsPart keys (stretchStart name label (keys .now)) (stretchEnd name label (keys .now)) r
+
+-- ---- a key put and inserted
+
+-- bytes of the key of an entry
+abbrev pub keySize : Name → Label → ℕ
+keySize name label = length name + length label + labelKeyFixed
+
+-- put at the front of out, which becomes out′: what the keys of a label begin with, and the key of an entry; r is its length
+abbrev pub LabelStartPut : Name → Label → Bytes → Bytes → ℕ → Type 0
+LabelStartPut name label out out′ r = (r ≡ length name + length label + (prefixFixed + 1)) × (out′ ≡ putAt out 0 (labelStart name label))
+
+abbrev pub KeyPut : Name → Entry → Bytes → Bytes → ℕ → Type 0
+KeyPut name e out out′ r = (r ≡ keySize name (e .label)) × (out′ ≡ putAt out 0 (entryKey name e))
+
+-- the store with a key, and with that of an entry, in its place among the first `used` bytes
+abbrev pub insertedKey : ℕ → Bytes → ℕ → Bytes → Bytes
+insertedKey n store used key = insertedAt store used (placeIn key (keysOf n (take used store))) key
+
 abbrev pub insertedEntry : Name → Bytes → ℕ → Entry → Bytes
-insertedEntry name store used e = insertedAt store used (placeIn (entryKey name e) (keysOf (length name) (take used store))) (entryKey name e)
+insertedEntry name store used e = insertedKey (length name) store used (entryKey name e)
+
+-- an entry of a label can be inserted: the used keys are the set's, there is room, and the first `low` bytes come before all keys of the label
+abbrev pub EntryHasPlace : Name → Label → Bytes → ℕ → ℕ → Type 0
+EntryHasPlace name label store used low =
+    (nameOk name ≡ true) × (labelOk label ≡ true) × (all (startsWith (prefix name)) (keysOf (length name) (take used store)) ≡ true)
+    × (used + keySize name label ≤ length store) × LabelPassed name label (take used store) low
+
+-- the entry is inserted in a store, which becomes store′; r is the new used length
+abbrev pub EntryInserted : Name → Entry → ℕ → Bytes → Bytes → ℕ → Type 0
+EntryInserted name e used store store′ r = (r ≡ used + keySize name (e .label)) × (store′ ≡ insertedEntry name store used e)

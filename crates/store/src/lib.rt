@@ -1,18 +1,18 @@
 // The label store in a lent buffer: label keys end to end, read, compared and moved as raw bytes.
 ghost use mathlib.Core.Path.{_≡_};
 ghost use mathlib.Core.Bool.{true, not, cond};
-ghost use mathlib.Core.List.{_++_};
 ghost use Prim.Native.Nat.{_+_, _-_, _≤_, _<_};
-ghost use lib.ListN.{length, take, drop};
-ghost use Rattle.wire.specs.Lists.{all, isLt};
-ghost use Rattle.wire.specs.Bytes.{compareBytes, numberAt, startsWith, putAt, insertedAt, IsPart};
+ghost use lib.ListN.{length, take};
+ghost use Rattle.wire.specs.Lists.{isLt};
+ghost use Rattle.wire.specs.Bytes.{compareBytes, numberAt, startsWith, putAt};
 ghost use Rattle.dots.specs.Names.{nameOk, labelOk, nameMost};
 ghost use Rattle.dots.specs.Entries.{entry};
-ghost use Rattle.keys.specs.Entry.{prefix, entryKey};
+ghost use Rattle.keys.specs.Entry.{prefix};
 ghost use Rattle.store.specs.Cut.{keyLength, keysOf, keyDot};
-ghost use Rattle.store.specs.Valid.{usedOk, storeOk};
-ghost use Rattle.store.specs.Place.{lengthWhile, placeIn, labelStart, stretchStart, stretchEnd, insertedEntry, labelNumber, Passed, isSound, frontOf, Judged};
-ghost use Rattle.store.specs.Front.{afterLength, frontLength, FirstNumbers};
+ghost use Rattle.store.specs.Place.{lengthWhile, placeIn, labelNumber, LabelPassed, PlacePast, PlaceAmongAlike};
+ghost use Rattle.store.specs.Place.{isSound, frontOf, KeysJudged, StoreJudged, IsStretchFrom, IsStretch};
+ghost use Rattle.store.specs.Place.{LabelStartPut, KeyPut, insertedKey, EntryHasPlace, EntryInserted};
+ghost use Rattle.store.specs.Front.{afterLength, frontLength, TailIn, tailOf};
 ghost use Rattle.keys.specs.Key.{labelKeyFixed, prefixFixed, suffixSize};
 
 // Bytes of a store, at most; of what a set's keys begin with, of what a label's keys begin with, of a key.
@@ -31,6 +31,14 @@ const KEY_MOST: usize = dots::NAME_MOST + dots::LABEL_MOST + keys::LABEL_KEY_FIX
 pub enum Judgement {
     Damaged,
     Sound(usize),
+}
+
+// The bytes of a key from its label on: where they begin and end among the keys, and the numbers in the first 8 of them and in the next 4.
+struct KeyTail {
+    from: usize,
+    end: usize,
+    word: u64,
+    half: u64,
 }
 
 // Whether a judgement is damage.
@@ -136,27 +144,22 @@ fn pick(first: bool, a: u64, b: u64) -> u64
     if first { a } else { b }
 }
 
-// Whether the bytes from `label` to `at` come before those from `next` to `end`. The numbers in the first 8 bytes and in the next 4 of both decide unless they are equal.
-fn ascends(
-    keys: &[u8],
-    label: usize,
-    at: usize,
-    next: usize,
-    end: usize,
-    word: u64,
-    half: u64,
-    next_word: u64,
-    next_half: u64,
-) -> bool
-    requires { ⌜ FirstNumbers (now keys) label at word half × (FirstNumbers (now keys) next end «next_word» «next_half» × (next < end)) ⌝ }
-    ensures { λ r. ⌜ r ≡ isLt (compareBytes (take (at - label) (drop label (now (keys .entry)))) (take (end - next) (drop next (now (keys .entry))))) ⌝ }
+// Whether a tail comes before another. The numbers in the first 8 bytes and in the next 4 of both decide unless they are equal.
+fn ascends(keys: &[u8], last: KeyTail, next: KeyTail) -> bool
+    requires { ⌜ TailIn (now keys) last × (TailIn (now keys) next × (next .from < next .end)) ⌝ }
+    ensures { λ r. ⌜ r ≡ isLt (compareBytes (tailOf (now (keys .entry)) last) (tailOf (now (keys .entry)) next)) ⌝ }
 {
-    let low = pick(word == next_word, half, word);
-    let high = pick(word == next_word, next_half, next_word);
+    let same = last.word == next.word;
+    let low = pick(same, last.half, last.word);
+    let high = pick(same, next.half, next.word);
     if low != high {
         return low < high;
     }
-    search::lower(&keys[label..at], &keys[next..end])
+    let label = last.from;
+    let at = last.end;
+    let from = next.from;
+    let end = next.end;
+    search::lower(&keys[label..at], &keys[from..end])
 }
 
 // One of two places.
@@ -176,36 +179,41 @@ fn judge_keys(
     label: &[u8],
 ) -> Judgement
     requires { ⌜ (nameOk (now name) ≡ true) × (now start ≡ prefix (now name)) ⌝ }
-    ensures { λ r. ⌜ Judged (usedOk (now (name .entry)) (now (words .entry)) (now (keys .entry))) (length (now (name .entry))) (prefix (now (name .entry)) ++ now (label .entry)) (now (keys .entry)) r ⌝ }
+    ensures { λ r. ⌜ KeysJudged (now (name .entry)) (now (words .entry)) (now (keys .entry)) (now (label .entry)) r ⌝ }
 {
     let wanted = label_number(label);
-    let mut word = 0;
-    let mut half = 0;
-    let mut last = 0;
-    let mut at = 0;
+    let mut last = KeyTail {
+        from: 0,
+        end: 0,
+        word: 0,
+        half: 0,
+    };
     let mut low = 0;
-    while at < keys.len() {
+    while last.end < keys.len() {
+        let at = last.end;
         let len = front_length(name, start, words, &keys[at..]);
         if len == 0 {
             return Judgement::Damaged;
         }
-        let next = at + (name.len() + keys::PREFIX_FIXED);
+        let from = at + (name.len() + keys::PREFIX_FIXED);
         let end = at + len;
-        let next_word = wire::number_at(keys, next);
-        let next_half = wire::half_at(keys, next + 8);
-        if !ascends(keys, last, at, next, end, word, half, next_word, next_half) {
+        let next = KeyTail {
+            from,
+            end,
+            word: wire::number_at(keys, from),
+            half: wire::half_at(keys, from + 8),
+        };
+        if !ascends(keys, last, next) {
             return Judgement::Damaged;
         }
-        low = pick_place(next_word < wanted, end, low);
-        word = next_word;
-        half = next_half;
+        low = pick_place(next.word < wanted, end, low);
         last = next;
-        at = end;
     }
     Judgement::Sound(low)
 }
 
 // Whether the store is undamaged: its length and used length, and one pass over the keys, which tells how many bytes come before all keys of a label.
+// The pass asks a copy of the clock on the stack.
 pub fn judge(
     name: &[u8],
     words: &clock::Words,
@@ -214,7 +222,7 @@ pub fn judge(
     label: &[u8],
 ) -> Judgement
     requires { ⌜ nameOk (now name) ≡ true ⌝ }
-    ensures { λ r. ⌜ Judged (storeOk (now (name .entry)) (now (words .entry)) (now (store .entry)) used) (length (now (name .entry))) (prefix (now (name .entry)) ++ now (label .entry)) (take used (now (store .entry))) r ⌝ }
+    ensures { λ r. ⌜ StoreJudged (now (name .entry)) (now (words .entry)) (now (store .entry)) used (now (label .entry)) r ⌝ }
 {
     if STORE_MOST < store.len() {
         return Judgement::Damaged;
@@ -227,7 +235,8 @@ pub fn judge(
     }
     let mut start = [0; PREFIX_MOST];
     let n = put_prefix(&mut start, name);
-    judge_keys(name, &start[..n], words, &store[..used], label)
+    let here = *words;
+    judge_keys(name, &start[..n], &here, &store[..used], label)
 }
 
 // How long the key at the front of s is, by its label's closing 00; at most all of s.
@@ -248,7 +257,7 @@ pub fn key_length(n: usize, s: &[u8]) -> usize
 
 // Where a key goes in keys end to end, the first `low` bytes of which come before it: raw bytes are compared, and nothing is decoded.
 fn place(n: usize, keys: &[u8], key: &[u8], low: usize) -> usize
-    requires { ⌜ (n ≤ nameMost) × (low ≤ length (now keys)) × (placeIn (now key) (keysOf n (now keys)) ≡ low + placeIn (now key) (keysOf n (drop low (now keys)))) ⌝ }
+    requires { ⌜ (n ≤ nameMost) × PlacePast n (now keys) (now key) low ⌝ }
     ensures { λ r. ⌜ (r ≡ placeIn (now (key .entry)) (keysOf n (now (keys .entry)))) × (r ≤ length (now (keys .entry))) ⌝ }
 {
     let mut at = low;
@@ -279,7 +288,7 @@ fn comes_before(stored: &[u8], key: &[u8], from: usize, wanted: u64) -> bool
 
 // Where a key goes in keys end to end, the first `low` bytes of which come before it, and the others of which all begin as it does up to the label: they are compared from there on.
 fn place_after(n: usize, keys: &[u8], key: &[u8], low: usize) -> usize
-    requires { ⌜ (n ≤ nameMost) × (n + 12 ≤ length (now key)) × (low ≤ length (now keys)) × (placeIn (now key) (keysOf n (now keys)) ≡ low + placeIn (now key) (keysOf n (drop low (now keys)))) × (all (startsWith (take (n + prefixFixed) (now key))) (keysOf n (drop low (now keys))) ≡ true) ⌝ }
+    requires { ⌜ (n ≤ nameMost) × PlaceAmongAlike n (now keys) (now key) low ⌝ }
     ensures { λ r. ⌜ (r ≡ placeIn (now (key .entry)) (keysOf n (now (keys .entry)))) × (r ≤ length (now (keys .entry))) ⌝ }
 {
     let from = n + keys::PREFIX_FIXED;
@@ -298,7 +307,7 @@ fn place_after(n: usize, keys: &[u8], key: &[u8], low: usize) -> usize
 // Puts what the keys of a label begin with at the front of out. Returns its length.
 fn put_label_start(out: &mut [u8], name: &[u8], label: &[u8]) -> usize
     requires { ⌜ length (now name) + length (now label) + 5 ≤ length (now out) ⌝ }
-    ensures { λ r. ⌜ (r ≡ length (now (name .entry)) + length (now (label .entry)) + 5) × (now (out .exit) ≡ putAt (now (out .entry)) 0 (labelStart (now (name .entry)) (now (label .entry)))) ⌝ }
+    ensures { λ r. ⌜ LabelStartPut (now (name .entry)) (now (label .entry)) (now (out .entry)) (now (out .exit)) r ⌝ }
 {
     let label_at = put_prefix(out, name);
     let end = moves::put(out, label_at, label);
@@ -309,7 +318,7 @@ fn put_label_start(out: &mut [u8], name: &[u8], label: &[u8]) -> usize
 // Puts the key of an entry at the front of out. Returns its length.
 fn put_key(out: &mut [u8], name: &[u8], label: &[u8], dot: dots::Dot) -> usize
     requires { ⌜ length (now name) + length (now label) + labelKeyFixed ≤ length (now out) ⌝ }
-    ensures { λ r. ⌜ (r ≡ length (now (name .entry)) + length (now (label .entry)) + labelKeyFixed) × (now (out .exit) ≡ putAt (now (out .entry)) 0 (entryKey (now (name .entry)) (entry (now (label .entry)) dot))) ⌝ }
+    ensures { λ r. ⌜ KeyPut (now (name .entry)) (entry (now (label .entry)) dot) (now (out .entry)) (now (out .exit)) r ⌝ }
 {
     let at = put_label_start(out, name, label);
     let actor = [dot.actor.number, 0];
@@ -320,8 +329,8 @@ fn put_key(out: &mut [u8], name: &[u8], label: &[u8], dot: dots::Dot) -> usize
 
 // Puts a key in its place among the first `used` bytes, of which the first `low` come before it; those from there on move up.
 fn insert_key(store: &mut [u8], used: usize, n: usize, key: &[u8], low: usize)
-    requires { ⌜ (n ≤ nameMost) × (n + 12 ≤ length (now key)) × (used + length (now key) ≤ length (now store)) × (low ≤ length (take used (now store))) × (placeIn (now key) (keysOf n (take used (now store))) ≡ low + placeIn (now key) (keysOf n (drop low (take used (now store))))) × (all (startsWith (take (n + prefixFixed) (now key))) (keysOf n (drop low (take used (now store)))) ≡ true) ⌝ }
-    ensures { λ _. ⌜ now (store .exit) ≡ insertedAt (now (store .entry)) used (placeIn (now (key .entry)) (keysOf n (take used (now (store .entry))))) (now (key .entry)) ⌝ }
+    requires { ⌜ (n ≤ nameMost) × (used + length (now key) ≤ length (now store)) × PlaceAmongAlike n (take used (now store)) (now key) low ⌝ }
+    ensures { λ _. ⌜ now (store .exit) ≡ insertedKey n (now (store .entry)) used (now (key .entry)) ⌝ }
 {
     let at = place_after(n, &store[..used], key, low);
     moves::insert_piece(store, used, at, key);
@@ -336,8 +345,8 @@ pub fn insert_entry(
     dot: dots::Dot,
     low: usize,
 ) -> usize
-    requires { ⌜ (nameOk (now name) ≡ true) × (labelOk (now label) ≡ true) × (all (startsWith (prefix (now name))) (keysOf (length (now name)) (take used (now store))) ≡ true) × (used + (length (now name) + length (now label) + labelKeyFixed) ≤ length (now store)) × Passed (length (now name)) (prefix (now name) ++ now label) (take used (now store)) low ⌝ }
-    ensures { λ r. ⌜ (r ≡ used + (length (now (name .entry)) + length (now (label .entry)) + labelKeyFixed)) × (now (store .exit) ≡ insertedEntry (now (name .entry)) (now (store .entry)) used (entry (now (label .entry)) dot)) ⌝ }
+    requires { ⌜ EntryHasPlace (now name) (now label) (now store) used low ⌝ }
+    ensures { λ r. ⌜ EntryInserted (now (name .entry)) (entry (now (label .entry)) dot) used (now (store .entry)) (now (store .exit)) r ⌝ }
 {
     let mut key = [0; KEY_MOST];
     let len = put_key(&mut key, name, label, dot);
@@ -363,8 +372,8 @@ fn run(n: usize, keys: &[u8], start: &[u8]) -> usize
 
 // The very stretch of the keys that begin with `start`, from its place on.
 fn stretch_from<'a, 'b>(n: usize, keys: &'a [u8], start: &'b [u8], low: usize) -> &'a [u8]
-    requires { ⌜ (n ≤ nameMost) × (low ≤ length (now keys)) × (placeIn (now start) (keysOf n (now keys)) ≡ low + placeIn (now start) (keysOf n (drop low (now keys)))) ⌝ }
-    ensures { λ r. ⌜ IsPart (keys .entry) (placeIn (now (start .entry)) (keysOf n (now (keys .entry)))) (placeIn (now (start .entry)) (keysOf n (now (keys .entry))) + lengthWhile (startsWith (now (start .entry))) (keysOf n (drop (placeIn (now (start .entry)) (keysOf n (now (keys .entry)))) (now (keys .entry))))) r ⌝ }
+    requires { ⌜ (n ≤ nameMost) × PlacePast n (now keys) (now start) low ⌝ }
+    ensures { λ r. ⌜ IsStretchFrom n (keys .entry) (now (start .entry)) r ⌝ }
 {
     let at = place(n, keys, start, low);
     let end = at + run(n, &keys[at..], start);
@@ -373,8 +382,8 @@ fn stretch_from<'a, 'b>(n: usize, keys: &'a [u8], start: &'b [u8], low: usize) -
 
 // The very stretch of the keys of a label, which is not among the first `low` bytes; the empty one at the place they would go if there are none.
 pub fn stretch<'a, 'b>(keys: &'a [u8], name: &'b [u8], label: &'b [u8], low: usize) -> &'a [u8]
-    requires { ⌜ (nameOk (now name) ≡ true) × (labelOk (now label) ≡ true) × Passed (length (now name)) (prefix (now name) ++ now label) (now keys) low ⌝ }
-    ensures { λ r. ⌜ IsPart (keys .entry) (stretchStart (now (name .entry)) (now (label .entry)) (now (keys .entry))) (stretchEnd (now (name .entry)) (now (label .entry)) (now (keys .entry))) r ⌝ }
+    requires { ⌜ (nameOk (now name) ≡ true) × (labelOk (now label) ≡ true) × LabelPassed (now name) (now label) (now keys) low ⌝ }
+    ensures { λ r. ⌜ IsStretch (now (name .entry)) (now (label .entry)) (keys .entry) r ⌝ }
 {
     let mut start = [0; LABEL_START_MOST];
     let len = put_label_start(&mut start, name, label);

@@ -13,7 +13,9 @@ usage: ptl console
        ptl --help | -h | --version
 
 console   runs up to sixteen controllers: a command a line on standard input,
-          an answer a line on standard output
+          an answer a line on standard output; a line that breaks the form gives
+          `? REASON`, or `? field N: REASON` with the number of the field after the
+          command's word
 compare   runs N random calls (200000) from the seed S (1) on the product and on
           the reference (or the baseline), and stops at the first difference with a
           script of it; exit status 1 on a difference, and if N is at least 200000

@@ -22,7 +22,7 @@ pub fn console(engine: &dyn Engine, input: impl Read, mut output: impl Write) ->
         let reply = match fits {
             true if is_silent(&line) => continue,
             true => obey(engine, &mut racks, &line),
-            false => Err("line over 262144 bytes"),
+            false => Err("line over 262144 bytes".into()),
         };
         match reply {
             Ok(reply) => writeln!(output, "{reply}")?,

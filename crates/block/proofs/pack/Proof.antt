@@ -33,6 +33,22 @@ fits c words = record {
   used-fits = search needs;
 }
 
+-- the way back from call to call
+abbrev tombstone-put : tie.After-put-number → tie.After-put-tombstone
+tombstone-put c = c .before .before .before .before
+
+abbrev clock-put : tie.After-put-tombstone → tie.After-put-clock
+clock-put c = c .before .before .before .before
+
+abbrev name-put : tie.After-put-clock → tie.After-put-name
+name-put c = c .before .before .before .before
+
+abbrev actor-put : tie.After-put-name → tie.After-put-actor
+actor-put c = c .before .before .before .before
+
+abbrev start : tie.After-put-actor → tie.Start
+start c = c .before .before .before .before .before .before .before
+
 put-actor-requires : tie.Need-put-actor-requires
 put-actor-requires c κs = search needs
 
@@ -53,9 +69,14 @@ same-length c = search needs
 
 returns : tie.Need-returns
 returns c =
-    let s = c .before .before .before .before .before .before .before .before .before .before .before .before .before .before .before .before .before .before .before .before .before .before .before .before .before in
-    let is = packed (s .args .state) (s .args .block .now) _ _ _ _ _ (search needs) (c .before .before .before .before .before .before .before .before .before .before .before .before .before .before .before .before .before .before .put-actor .ensures) (c .before .before .before .before .before .before .before .before .before .before .before .before .before .before .put-name .ensures) (c .before .before .before .before .before .before .before .before .before .before .put-clock .ensures .0) (c .before .before .before .before .before .before .put-tombstone .ensures) (c .before .before .put-number .ensures .1) in
-    (is, state-on _ (s .args .state) (fits s (c .before .before .before .before .before .before .before .before .before .before .put-clock .ensures .1)) is)
+    let number = c .before .before in
+    let tombstone = tombstone-put number in
+    let clock = clock-put tombstone in
+    let name = name-put clock in
+    let actor = actor-put name in
+    let s = start actor in
+    let is = packed (s .args .state) (s .args .block .now) _ _ _ _ _ (search needs) (actor .put-actor .ensures) (name .put-name .ensures) (clock .put-clock .ensures .0) (tombstone .put-tombstone .ensures) (number .put-number .ensures .1) in
+    (is, state-on _ (s .args .state) (fits s (clock .put-clock .ensures .1)) is)
 
 pub pack-spec : {M : Type 1} → statement M
 pack-spec =

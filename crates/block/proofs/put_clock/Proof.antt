@@ -22,7 +22,7 @@ returns c =
     let words = c .before .before .before .before .before .before .before .args .clock .words in
     let size : length words ≡ clockWords = search needs in
     let call = c .before .before .put-words .ensures in
-    (fills-words words clockWords size (call .1), call .2)
+    (fills-words words clockWords size (call .0 .put), call .1)
 
 pub put-clock-spec : {M : Type 1} → statement M
 put-clock-spec =

@@ -21,7 +21,7 @@ returns : tie.Need-returns
 returns c =
     let name = c .before .before .before .before .before .before .before .args .name in
     let size : length (name .bytes) ≡ nameMost = search needs in
-    fills-counted (name .bytes) (name .len) nameMost size (c .before .before .put-with-number .ensures .1)
+    fills-counted (name .bytes) (name .len) nameMost size (c .before .before .put-with-number .ensures .put)
 
 pub put-name-spec : {M : Type 1} → statement M
 put-name-spec =

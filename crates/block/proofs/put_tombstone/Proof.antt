@@ -21,7 +21,7 @@ returns : tie.Need-returns
 returns c =
     let tombstone = c .before .before .before .before .before .before .before .args .tombstone in
     let size : length (tombstone .bytes) ≡ tombstoneSize = search needs in
-    fills-counted (tombstone .bytes) (tombstone .count) tombstoneSize size (c .before .before .put-with-number .ensures .1)
+    fills-counted (tombstone .bytes) (tombstone .count) tombstoneSize size (c .before .before .put-with-number .ensures .put)
 
 pub put-tombstone-spec : {M : Type 1} → statement M
 put-tombstone-spec =

@@ -5,7 +5,7 @@ use native.Mathlib.Omega.{arith}
 use lib.ListN.{length, take}
 use Rattle.wire.specs.Bytes.{putAt}
 use Rattle.block.specs.Block.{wordsBytes}
-use Rattle.block.proofs.Filled.{put-none, word-put, all-put}
+use Rattle.block.proofs.Filled.{put-none, word-put, words-end, all-put}
 use borrow.Author.Needs.{needs}
 use Rattle.block.proofs.put_words.Statement.{statement}
 use Rattle.block.proofs.put_words.Tie as tie
@@ -41,7 +41,7 @@ same-length : tie.Need-same-length Inv-loop μ-loop
 same-length c = search needs
 
 returns : tie.Need-returns Inv-loop μ-loop
-returns c = (search needs, search (needs, all-put), λ i. omega (arith, c .before .before .shared-slice-known .given i))
+returns c = (record { ends = search (needs, words-end); put = search (needs, all-put) }, λ i. omega (arith, c .before .before .shared-slice-known .given i))
 
 pub put-words-spec : {M : Type 1} → statement M
 put-words-spec =

@@ -15,8 +15,19 @@ use Rattle.capi.proofs.ptl_compact.Statement.{statement}
 use Rattle.capi.proofs.ptl_compact.Tie as tie
 use Rattle.calls.specs.State.{Sized}
 
+-- the entry of the function, from the test of the block's size
+abbrev start : tie.After-slice-known2 → tie.Start
+start c = c .before .before
+
+-- what the block was read as, from the call; and the test before it
+abbrev unpacked : tie.After-compact → tie.After-unpack
+unpacked c = c .before .before .before
+
+abbrev tested : tie.After-unpack → tie.Else1
+tested c = c .before .before
+
 returns : tie.Need-returns
-returns c = let s = c .before .before .before in not-changed (s .args .state .now) (c .if1 .taken) (s .args .store .now) [] (λ (st : State). compactResult st (s .args .store .now))
+returns c = let s = start (c .before) in not-changed (s .args .state .now) (c .if1 .taken) (s .args .store .now) [] (λ (st : State). compactResult st (s .args .store .now))
 
 unpack-requires : tie.Need-unpack-requires
 unpack-requires c κs = search needs
@@ -35,14 +46,17 @@ same-length-2 c = search needs
 
 returns-2 : tie.Need-returns-2
 returns-2 c =
-    let s = c .before .before .before .before .before .before .before .before .before .before .before .before in
     let call = c .before .before .before .before in
-    let st = c .before .before .before .before .before .before .before .unpack .result in
-    let small : (i : ℕ) → Fits w8 (getD (s .args .state .now) i 0) = search needs in
-    let is = c .before .before .before .before .before .before .before .unpack .ensures in
-    let sized : Sized st = rw is (state-sized (s .args .state .now) (c .before .before .before .before .before .before .before .before .before .if1 .left)) in
-    unchanged (s .args .state .now) (c .before .before .before .before .before .before .before .before .before .if1 .left) st is (s .args .store .now) [] (λ (x : State). compactResult x (s .args .store .now))
-    (λ i. small i .fits) _ _ _ (call .compact .result) (call .compact .ensures) (compact-same st (s .args .store .now) sized (eqb-true (st .tombstone .count) 0 (c .before .if2 .taken))) (c .number-of .ensures)
+    let u = unpacked call in
+    let size = tested u .if1 .left in
+    let s = start (tested u .before) in
+    let block = s .args .state .now in
+    let store = s .args .store .now in
+    let st = u .unpack .result in
+    let small : (i : ℕ) → Fits w8 (getD block i 0) = search needs in
+    let sized : Sized st = rw (u .unpack .ensures) (state-sized block size) in
+    unchanged block size st (u .unpack .ensures) store [] (λ (x : State). compactResult x store)
+    (λ i. small i .fits) _ _ _ (call .compact .result) (call .compact .ensures) (compact-same st store sized (eqb-true (st .tombstone .count) 0 (c .before .if2 .taken))) (c .number-of .ensures)
 
 pack-requires : tie.Need-pack-requires
 pack-requires c κs = search needs
@@ -58,10 +72,12 @@ same-length-4 c = search needs
 
 returns-3 : tie.Need-returns-3
 returns-3 c =
-    let s = c .before .before .before .before .before .before .before .before .before .before .before .before .before .before .before .before .before in
-    let call = c .before .before .before .before .before .before .before .before .before in
-    changed (s .args .state .now) (c .before .before .before .before .before .before .before .before .before .before .before .before .before .before .if1 .left) (c .before .before .before .before .before .before .before .before .before .before .before .before .unpack .result) (c .before .before .before .before .before .before .before .before .before .before .before .before .unpack .ensures) (s .args .store .now) [] (λ (st : State). compactResult st (s .args .store .now))
-    _ _ _ _ (call .compact .result) (call .compact .ensures) (c .before .before .before .pack .ensures) (c .number-of2 .ensures)
+    let packed = c .before .before .before in
+    let call = packed .before .before .before .before .before .before in
+    let u = unpacked call in
+    let s = start (tested u .before) in
+    changed (s .args .state .now) (tested u .if1 .left) (u .unpack .result) (u .unpack .ensures) (s .args .store .now) [] (λ (st : State). compactResult st (s .args .store .now))
+    _ _ _ _ (call .compact .result) (call .compact .ensures) (packed .pack .ensures) (c .number-of2 .ensures)
 
 pub ptl-compact-spec : {M : Type 1} → statement M
 ptl-compact-spec =

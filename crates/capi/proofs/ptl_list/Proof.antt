@@ -6,8 +6,12 @@ use borrow.Author.Needs.{needs}
 use Rattle.capi.proofs.ptl_list.Statement.{statement}
 use Rattle.capi.proofs.ptl_list.Tie as tie
 
+-- the entry of the function, from the test of the block's size
+abbrev start : tie.After-slice-known → tie.Start
+start c = c .before .before .before
+
 returns : tie.Need-returns
-returns c = let s = c .before .before .before .before in not-listed (s .args .state .now) (c .if1 .taken) (s .args .store .now) (s .args .out .now) (λ (st : State). listResult st (s .args .store .now) (s .args .out .now))
+returns c = let s = start (c .before) in not-listed (s .args .state .now) (c .if1 .taken) (s .args .store .now) (s .args .out .now) (λ (st : State). listResult st (s .args .store .now) (s .args .out .now))
 
 unpack-requires : tie.Need-unpack-requires
 unpack-requires c κs = search needs
@@ -23,10 +27,11 @@ same-length c = search needs
 
 returns-2 : tie.Need-returns-2
 returns-2 c =
-    let s = c .before .before .before .before .before .before .before .before .before .before in
     let call = c .before .before .before in
     let unpacked = call .before .before in
-    listed (s .args .state .now) (unpacked .before .if1 .left) (unpacked .unpack .result) (unpacked .unpack .ensures) (s .args .store .now) (s .args .out .now) (λ (st : State). listResult st (s .args .store .now) (s .args .out .now))
+    let tested = unpacked .before in
+    let s = start (tested .before) in
+    listed (s .args .state .now) (tested .if1 .left) (unpacked .unpack .result) (unpacked .unpack .ensures) (s .args .store .now) (s .args .out .now) (λ (st : State). listResult st (s .args .store .now) (s .args .out .now))
     _ _ (call .list .result) (call .list .ensures) (c .number-of .ensures)
 
 pub ptl-list-spec : {M : Type 1} → statement M

@@ -7,8 +7,12 @@ use borrow.Author.Needs.{needs}
 use Rattle.capi.proofs.ptl_take_in.Statement.{statement}
 use Rattle.capi.proofs.ptl_take_in.Tie as tie
 
+-- the entry of the function, from the test of the block's size
+abbrev start : tie.After-shared-slice-known → tie.Start
+start c = c .before .before .before
+
 returns : tie.Need-returns
-returns c = let s = c .before .before .before .before in not-changed (s .args .state .now) (c .if1 .taken) (s .args .store .now) [] (λ (st : State). takeInResult st (s .args .store .now) (s .args .message .now))
+returns c = let s = start (c .before) in not-changed (s .args .state .now) (c .if1 .taken) (s .args .store .now) [] (λ (st : State). takeInResult st (s .args .store .now) (s .args .message .now))
 
 unpack-requires : tie.Need-unpack-requires
 unpack-requires c κs = search needs
@@ -30,11 +34,13 @@ same-length-2 c = search needs
 
 returns-2 : tie.Need-returns-2
 returns-2 c =
-    let s = c .before .before .before .before .before .before .before .before .before .before .before .before .before .before .before .before in
-    let call = c .before .before .before .before .before .before .before .before in
+    let packed = c .before .before .before in
+    let call = packed .before .before .before .before .before in
     let unpacked = call .before .before in
-    changed (s .args .state .now) (unpacked .before .before .if1 .left) (unpacked .unpack .result) (unpacked .unpack .ensures) (s .args .store .now) [] (λ (st : State). takeInResult st (s .args .store .now) (s .args .message .now))
-    _ _ _ _ (call .take-in .result) (call .take-in .ensures) (c .before .before .before .pack .ensures) (c .number-of .ensures)
+    let tested = unpacked .before .before in
+    let s = start (tested .before) in
+    changed (s .args .state .now) (tested .if1 .left) (unpacked .unpack .result) (unpacked .unpack .ensures) (s .args .store .now) [] (λ (st : State). takeInResult st (s .args .store .now) (s .args .message .now))
+    _ _ _ _ (call .take-in .result) (call .take-in .ensures) (packed .pack .ensures) (c .number-of .ensures)
 
 pub ptl-take-in-spec : {M : Type 1} → statement M
 ptl-take-in-spec =

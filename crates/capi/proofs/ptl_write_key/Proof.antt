@@ -4,6 +4,10 @@ use borrow.Author.Needs.{needs}
 use Rattle.capi.proofs.ptl_write_key.Statement.{statement}
 use Rattle.capi.proofs.ptl_write_key.Tie as tie
 
+-- the entry of the function, from the type of the byte
+abbrev start : tie.After-kind-of → tie.Start
+start c = c .before .before .before .before
+
 kind-of-requires : tie.Need-kind-of-requires
 kind-of-requires c κs = search needs
 
@@ -12,8 +16,8 @@ type-byte-requires c κs = search needs
 
 returns : tie.Need-returns
 returns c =
-    let s = c .before .before .before .before .before .before in
     let typed = c .before .before in
+    let s = start typed in
     no-kind (s .args .kind) (c .before .type-byte .result) (typed .kind-of .result) (s .args .name .now) (s .args .label .now) (s .args .actor) (s .args .counter) (s .args .out .now) (typed .kind-of .ensures) (c .before .type-byte .ensures) (c .if1 .taken)
 
 write-key-requires : tie.Need-write-key-requires
@@ -27,10 +31,10 @@ same-length c = search needs
 
 returns-2 : tie.Need-returns-2
 returns-2 c =
-    let s = c .before .before .before .before .before .before .before .before .before .before .before in
     let call = c .before .before .before in
     let tested = call .before .before in
     let typed = tested .before .before in
+    let s = start typed in
     key-written (s .args .kind) (tested .before .type-byte .result) (typed .kind-of .result) (s .args .name .now) (s .args .label .now) (s .args .actor) (s .args .counter) (s .args .out .now) (typed .kind-of .ensures) (tested .before .type-byte .ensures)
     (tested .if1 .left) _ (call .write-key .result) _ (call .write-key .ensures) (c .number-of .ensures)
 

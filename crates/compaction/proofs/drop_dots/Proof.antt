@@ -17,11 +17,11 @@ loop-holds c = search (needs, gather-started)
 mul-from : tie.Need-mul-from Inv-loop μ-loop
 mul-from c = search needs
 
+add-end : tie.Need-add-end Inv-loop μ-loop
+add-end c = search needs
+
 element-copy-out-keep-piece : tie.Need-element-copy-out-keep-piece Inv-loop μ-loop
 element-copy-out-keep-piece c = search needs
-
-add-keep-piece : tie.Need-add-keep-piece Inv-loop μ-loop
-add-keep-piece c = search needs
 
 keep-piece-requires : tie.Need-keep-piece-requires Inv-loop μ-loop
 keep-piece-requires c κs = search (needs, dot-within)
@@ -61,8 +61,8 @@ drop-dots-spec =
     μ-loop
     loop-holds
     mul-from
+    add-end
     element-copy-out-keep-piece
-    add-keep-piece
     keep-piece-requires
     add-i
     loop-less

@@ -1,7 +1,5 @@
 -- The dot is marked and the key left out, or the key moves down.
-use Rattle.wire.specs.Lists.{member}
-use Rattle.dots.specs.Dots.{compareDots}
-use Rattle.dots.specs.Wire.{dotsOf}
+use Rattle.compaction.specs.Compaction.{isIn}
 use Rattle.compaction.proofs.Compaction.{key-dropped}
 use borrow.Author.Needs.{needs}
 use Rattle.compaction.proofs.drop_key.Statement.{statement}
@@ -30,9 +28,9 @@ same-length c = search needs
 
 returns : tie.Need-returns
 returns c =
-    let s = c .before .before .before .before .before .before .before .before .before .before .before in
     let marked = c .before .before .before .before in
-    key-dropped (λ d. member compareDots d (dotsOf (s .args .ascending .now))) _ _ _ _ _ _ _ _ _ _ _ (marked .before .before .key-dot .ensures) (marked .mark-dot .ensures .found) (marked .mark-dot .ensures .dots-left) (marked .mark-dot .ensures .size) (c .before .before .keep-piece .ensures)
+    let s = marked .before .before .before .before .before .before .before in
+    key-dropped (isIn (s .args .ascending .now)) _ _ _ _ _ _ _ _ _ _ _ (marked .before .before .key-dot .ensures) (marked .mark-dot .ensures .found) (marked .mark-dot .ensures .dots-left) (marked .mark-dot .ensures .size) (c .before .before .keep-piece .ensures)
 
 pub drop-key-spec : {M : Type 1} → statement M
 drop-key-spec =

@@ -3,16 +3,15 @@ use Prim.Native.Nat.{_-_}
 use mathlib.Core.Path.{_∙_}
 use native.Mathlib.Omega.{arith}
 use lib.ListN.{length}
-use Rattle.wire.specs.Lists.{member}
-use Rattle.dots.specs.Dots.{compareDots}
 use Rattle.dots.specs.Wire.{dotsOf}
+use Rattle.compaction.specs.Compaction.{isIn}
 use Rattle.compaction.proofs.Compaction.{Walked, walk-started, key-within, key-room, turn-falls, walk-turned, walk-ended}
 use borrow.Author.Needs.{needs}
 use Rattle.compaction.proofs.drop_keys.Statement.{statement}
 use Rattle.compaction.proofs.drop_keys.Tie as tie
 
 abbrev Inv-loop : tie.InvT-loop
-Inv-loop n keys₀ ascending slots marks₀ from₀ to₀ keys marks from to = Walked (λ d. member compareDots d (dotsOf ascending)) (dotsOf ascending) n keys₀ keys marks₀ marks from to
+Inv-loop n keys₀ ascending slots marks₀ from₀ to₀ keys marks from to = Walked (isIn ascending) (dotsOf ascending) n keys₀ keys marks₀ marks from to
 
 abbrev μ-loop : tie.MeasureT-loop
 μ-loop n keys₀ ascending slots marks₀ from₀ to₀ keys marks from to = length keys - from
@@ -36,14 +35,16 @@ add-end : tie.Need-add-end Inv-loop μ-loop
 add-end c =
     let turn = c .before .before .before .before in
     let s = turn .before .before .before in
-    let end = key-within (λ d. member compareDots d (dotsOf (s .args .ascending .now))) _ _ _ _ _ _ _ _ _ (turn .loop .inv) (c .before .before .before .loop-test .taken) (c .key-length .ensures) in
+    let end = key-within (isIn (s .args .ascending .now)) _ _ _ _ _ _ _ _ _ (turn .loop .inv) (c .before .before .before .loop-test .taken) (c .key-length .ensures) in
     omega arith
 
 drop-key-requires : tie.Need-drop-key-requires Inv-loop μ-loop
 drop-key-requires c κs =
     let turn = c .before .before .before .before .before .before in
-    let s = turn .before .before .before in
-    (search needs, search (needs, key-room), search (needs, key-within), s .pre .2, s .pre .3, s .pre .4, turn .loop .inv .marks-size ∙ s .pre .5)
+    let dots = turn .before .before .before .pre .2 in (
+      (search needs, search (needs, key-room), search (needs, key-within)),
+      record { ascends = dots .ascends; slotted = dots .slotted; few = dots .few; sized = turn .loop .inv .marks-size ∙ dots .sized },
+    )
 
 loop-less : tie.Need-loop-less Inv-loop μ-loop
 loop-less c = search (needs, turn-falls)

@@ -17,8 +17,9 @@ same-length c = search needs
 
 returns : tie.Need-returns
 returns c =
-    let s = c .before .before .before .before .before .before .before .before .before .before .before in
-    compact-leaves (s .args .state) (s .args .store .now) (s .pre .0) (s .pre .1) _ _ _ (c .before .before .before .before .before .before .compact .ensures)
+    let call = c .before .before .before .before .before .before in
+    let s = call .before .before .before .before .before in
+    compact-leaves (s .args .state) (s .args .store .now) (s .pre .0) (s .pre .1) _ _ _ (call .compact .ensures)
 
 pub compact-done-spec : {M : Type 1} → statement M
 compact-done-spec =

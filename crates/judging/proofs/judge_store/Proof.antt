@@ -20,7 +20,7 @@ array-share-prefix-bytes : tie.Need-array-share-prefix-bytes
 array-share-prefix-bytes c = search (needs, fits)
 
 slice-aggregate-judge : tie.Need-slice-aggregate-judge
-slice-aggregate-judge c = let s = c .before .before .before .before .before in let size : length (s .args .name .bytes) ≡ nameMost = search needs in front (s .args .name) size (s .pre .0)
+slice-aggregate-judge c = let s = c .before .before .before .before in let size : length (s .args .name .bytes) ≡ nameMost = search needs in front (s .args .name) size (s .pre .0)
 
 judge-requires : tie.Need-judge-requires
 judge-requires c κs = search needs

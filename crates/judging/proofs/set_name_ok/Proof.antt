@@ -4,23 +4,23 @@ use mathlib.Core.Bool.{Bool, false, _&&_}
 use mathlib.Core.Path.{_≡_}
 use mathlib.Core.List.{List}
 use native.Mathlib.Omega.{arith}
-use lib.Dec.{leb, eqb}
+use lib.Dec.{eqb}
 use lib.ListN.{length, take, drop}
 use borrow.Author.Tests.{le-leb, lt-leb}
 use Rattle.wire.specs.Lists.{all}
 use Rattle.wire.proofs.Parts.{rest-part}
 use Rattle.judging.proofs.Parts.{front-size}
 use Rattle.dots.specs.Names.{nameMost, nameOk}
-use Rattle.calls.specs.Damage.{zeroFrom}
+use Rattle.judging.specs.Judging.{isSetName}
 use borrow.Author.Needs.{needs}
 use Rattle.judging.proofs.set_name_ok.Statement.{statement}
 use Rattle.judging.proofs.set_name_ok.Tie as tie
 
-too-long : (s : List ℕ) (len : ℕ) → nameMost < len → false ≡ (leb len nameMost && (nameOk (take len s) && zeroFrom len s))
+too-long : (s : List ℕ) (len : ℕ) → nameMost < len → false ≡ isSetName s len
 too-long s len h = rw (lt-leb len nameMost h)
 
 tested : (s : List ℕ) (len : ℕ) (text zero : Bool) → len ≤ nameMost → text ≡ nameOk (take len s) → zero ≡ all (λ b. eqb b 0) (take (length s - len) (drop len s))
-    → (text && zero) ≡ (leb len nameMost && (nameOk (take len s) && zeroFrom len s))
+    → (text && zero) ≡ isSetName s len
 tested s len text zero h e f = rw (e, f, rest-part s len, le-leb len nameMost h)
 
 returns : tie.Need-returns

@@ -1,29 +1,23 @@
 -- The definition follows the tests.
-use Prim.Native.Nat.{ℕ, _*_}
+use Prim.Native.Nat.{ℕ}
 use mathlib.Core.Bool.{Bool, _&&_}
 use mathlib.Core.List.{List}
 use mathlib.Core.Path.{_≡_}
 use lib.Dec.{leb}
-use lib.ListN.{take}
-use Rattle.wire.specs.Lists.{all}
 use Rattle.wire.specs.Bytes.{Bytes}
-use Rattle.dots.specs.Names.{nameMost, nameOk}
-use Rattle.dots.specs.Dots.{ascendingDots, tombstoneMost, actorMost}
-use Rattle.dots.specs.Wire.{dotsOf, dotSize}
+use Rattle.dots.specs.Dots.{actorMost}
 use Rattle.clock.specs.Row.{windowWidth}
-use Rattle.clock.specs.Clock.{sees, clockOk}
-use Rattle.calls.specs.Damage.{zeroFrom, stateNameOk, tombstoneOk}
+use Rattle.clock.specs.Clock.{clockOk}
+use Rattle.calls.specs.Damage.{stateNameOk, tombstoneOk}
 use Rattle.calls.specs.declared.Head.{Head}
 use Rattle.calls.specs.State.{stateFrom}
-use Rattle.judging.specs.Judging.{stateOk}
+use Rattle.judging.specs.Judging.{isSetName, isTombstone, stateOk}
 use borrow.Author.Needs.{needs}
 use Rattle.judging.proofs.state_ok.Statement.{statement}
 use Rattle.judging.proofs.state_ok.Tie as tie
 
 tested : (head : Head) (words : List ℕ) (tombstone : Bytes) (named rows removed : Bool)
-    → named ≡ (leb (head .name .len) nameMost && (nameOk (take (head .name .len) (head .name .bytes)) && zeroFrom (head .name .len) (head .name .bytes)))
-    → rows ≡ clockOk windowWidth (head .actor .number) words
-    → removed ≡ (leb (head .count) tombstoneMost && (ascendingDots (dotsOf (take (head .count * dotSize) tombstone)) && (all (sees words) (dotsOf (take (head .count * dotSize) tombstone)) && zeroFrom (head .count * dotSize) tombstone)))
+    → named ≡ isSetName (head .name .bytes) (head .name .len) → rows ≡ clockOk windowWidth (head .actor .number) words → removed ≡ isTombstone words tombstone (head .count)
     → ((leb 1 (head .actor .number) && leb (head .actor .number) actorMost) && (named && (rows && removed))) ≡ stateOk (stateFrom head words tombstone)
 unfolding stateOk stateNameOk tombstoneOk
 tested head words tombstone named rows removed e f g = rw (e, f, g)

@@ -4,7 +4,7 @@ use mathlib.Core.Bool.{Bool, false, _&&_}
 use mathlib.Core.Path.{_≡_}
 use mathlib.Core.List.{List}
 use native.Mathlib.Omega.{arith}
-use lib.Dec.{leb, eqb}
+use lib.Dec.{eqb}
 use lib.ListN.{length, take, drop}
 use borrow.Author.Tests.{le-leb, lt-leb}
 use Rattle.wire.specs.Lists.{all}
@@ -13,21 +13,16 @@ use Rattle.judging.proofs.Parts.{front-size}
 use Rattle.dots.specs.Dots.{ascendingDots, tombstoneMost}
 use Rattle.dots.specs.Wire.{dotsOf, dotSize}
 use Rattle.clock.specs.Clock.{sees}
-use Rattle.calls.specs.Damage.{zeroFrom}
+use Rattle.judging.specs.Judging.{isTombstone}
 use borrow.Author.Needs.{needs}
 use Rattle.judging.proofs.tombstone_ok.Statement.{statement}
 use Rattle.judging.proofs.tombstone_ok.Tie as tie
 
-abbrev rule : List ℕ → List ℕ → ℕ → Bool
-rule words s count =
-    leb count tombstoneMost
-    && (ascendingDots (dotsOf (take (count * dotSize) s)) && (all (sees words) (dotsOf (take (count * dotSize) s)) && zeroFrom (count * dotSize) s))
-
-too-many : (words s : List ℕ) (count : ℕ) → tombstoneMost < count → false ≡ rule words s count
+too-many : (words s : List ℕ) (count : ℕ) → tombstoneMost < count → false ≡ isTombstone words s count
 too-many words s count h = rw (lt-leb count tombstoneMost h)
 
 tested : (words s : List ℕ) (count : ℕ) (ascend seen zero : Bool) → count ≤ tombstoneMost → ascend ≡ ascendingDots (dotsOf (take (count * dotSize) s)) → seen ≡ all (sees words) (dotsOf (take (count * dotSize) s))
-    → zero ≡ all (λ b. eqb b 0) (take (length s - count * dotSize) (drop (count * dotSize) s)) → (ascend && (seen && zero)) ≡ rule words s count
+    → zero ≡ all (λ b. eqb b 0) (take (length s - count * dotSize) (drop (count * dotSize) s)) → (ascend && (seen && zero)) ≡ isTombstone words s count
 tested words s count ascend seen zero h e f g = rw (e, f, g, rest-part s (count * dotSize), le-leb count tombstoneMost h)
 
 returns : tie.Need-returns

@@ -16,7 +16,7 @@ array-share-prefix-bytes : tie.Need-array-share-prefix-bytes
 array-share-prefix-bytes c =
     let s = c .before .before .before in
     let size : length (s .args .tombstone .bytes) ≡ tombstoneSize = search needs in
-    let few = s .pre .2 in
+    let few = s .pre .few in
     let fits : s .args .tombstone .count * dotSize ≤ length (s .args .tombstone .bytes) = omega arith in
     fits
 
@@ -25,7 +25,7 @@ slice-aggregate-any-live c =
     let s = c .before .before .before .before in
     let t = s .args .tombstone in
     let size : length (t .bytes) ≡ tombstoneSize = search needs in
-    let few = s .pre .2 in
+    let few = s .pre .few in
     front-size (t .bytes) (t .count * dotSize) (omega arith)
 
 any-live-requires : tie.Need-any-live-requires

@@ -53,8 +53,8 @@ write-listing-requires : tie.Need-write-listing-requires
 write-listing-requires c κs =
     let filled = c .before .before .before in
     let s = filled .before .before .before .before .before in
-    let room = ⊎-elim (λ way. counted _ _ _ (way .2 .ensures .0) (way .4 .left)) (λ way. as-long _ _ _ _ (s .pre .2) (way .left)) (c .before .before .if1 .came) in
-    (s .pre .0, s .pre .1, s .pre .2, s .pre .3, filled .fill-slots .ensures, room)
+    let room = ⊎-elim (λ way. counted _ _ _ (way .2 .ensures .0) (way .4 .left)) (λ way. as-long _ _ _ _ (s .pre .keys-fit) (way .left)) (c .before .before .if1 .came) in
+    (s .pre .short-name, s .pre .keys-short, s .pre .keys-fit, s .pre .ascends, filled .fill-slots .ensures, room)
 
 same-length : tie.Need-same-length
 same-length c = search needs

@@ -17,7 +17,7 @@ slice-aggregate-list-keys-2 : tie.Need-slice-aggregate-list-keys-2
 slice-aggregate-list-keys-2 c = let s = c .before .before .before .before .before in let size = s .pre .tomb .size in let few = s .pre .tomb .few in front-size (s .args .tombstone .now) (s .args .count * dotSize) (omega arith)
 
 list-keys-requires : tie.Need-list-keys-requires
-list-keys-requires c κs = let s = c .before .before .before .before .before .before in let size = front-size (s .args .store .now) (s .args .used) (s .pre .used-fits) in let within = s .pre .used-fits in let most = s .pre .store-fits in (s .pre .short-name, omega arith, s .pre .keys-fit, s .pre .tomb .ascends)
+list-keys-requires c κs = let s = c .before .before .before .before .before .before in let size = front-size (s .args .store .now) (s .args .used) (s .pre .used-fits) in let within = s .pre .used-fits in let most = s .pre .store-fits in record { short-name = s .pre .short-name; keys-short = omega arith; keys-fit = s .pre .keys-fit; ascends = s .pre .tomb .ascends }
 
 same-length : tie.Need-same-length
 same-length c = search needs

@@ -18,24 +18,27 @@ use Rattle.reads.proofs.lookup.Tie as tie
 
 -- the arrays of the state have their sizes
 sizes : (s : tie.Start) → Sized (s .args .t1)
-sizes s = let g = s .good .0 .1 .1 .1 in sized (s .args .t1) (g .0 .1 .1 .0 .1 .0 .1) (g .1 .0 .1 .1 .0 .1 .0 .1) (g .1 .1 .0 .1 .1 .0 .1 .0 .1)
+sizes s = let g = s .good .0 .1 .1 in sized (s .args .t1) (g .0 .1 .1 .0 .1 .0 .1) (g .1 .0 .1 .1 .0 .1 .0 .1) (g .1 .1 .0 .1 .1 .0 .1 .0 .1)
+
+abbrev start : tie.After-judge → tie.Start
+start c = c .before .before .before .before .before .before .before
 
 -- what the pass over state and store told
-judged : (c : tie.After-judge) → let s = c .before .before .before .before .before .before .before in Judges (s .args .t1) (s .args .store .now) (s .args .label .now) (c .judge .result)
+judged : (c : tie.After-judge) → let s = start c in Judges (s .args .t1) (s .args .store .now) (s .args .label .now) (c .judge .result)
 judged c =
-    let s = c .before .before .before .before .before .before .before in
+    let s = start c in
     at-head (s .args .t1) _ (c .before .before .before .before .head-of .ensures) (λ (x : State). Judges x (s .args .store .now) (s .args .label .now) (c .judge .result)) (c .judge .ensures)
 
-told : (c : tie.After-is-damage) → let s = c .before .before .before .before .before .before .before .before in c .is-damage .result ≡ damaged (s .args .t1) (s .args .store .now)
-told c = let s = c .before .before .before .before .before .before .before .before in tells-damage (s .args .t1) (s .args .store .now) (s .args .label .now) _ (judged (c .before)) _ (c .is-damage .ensures)
+told : (c : tie.After-is-damage) → let s = start (c .before) in c .is-damage .result ≡ damaged (s .args .t1) (s .args .store .now)
+told c = let s = start (c .before) in tells-damage (s .args .t1) (s .args .store .now) (s .args .label .now) _ (judged (c .before)) _ (c .is-damage .ensures)
 
 -- where there is no refusal, state and store are undamaged
-abbrev start : tie.Else1 → tie.Start
-start c = c .before .before .before .before .before .before .before .before .before .before
+abbrev begun : tie.Else1 → tie.Start
+begun c = start (c .before .before .before)
 
-may : (c : tie.Else1) → (damaged (start c .args .t1) (start c .args .store .now) ≡ false) × (labelOk (start c .args .label .now) ≡ true)
+may : (c : tie.Else1) → let s = begun c in (damaged (s .args .t1) (s .args .store .now) ≡ false) × (labelOk (s .args .label .now) ≡ true)
 may c =
-    let s = start c in
+    let s = begun c in
     may-look (s .args .t1) (s .args .store .now) (s .args .label .now) _ (look-is (s .args .t1) (s .args .store .now) (s .args .label .now) _ _ (told (c .before .before)) (c .before .lookup-number .ensures)) (c .if1 .left)
 
 head-of-requires : tie.Need-head-of-requires
@@ -61,11 +64,11 @@ part-result-end c = search needs
 
 returns : tie.Need-returns
 returns c =
-    let s = c .before .before .before .before .before .before .before .before .before .before .before in
+    let s = start (c .before .before .before .before) in
     not-looked (s .args .t1) (s .args .store) _ (s .args .label .now) (c .before .before .lookup-number .result) (look-is (s .args .t1) (s .args .store .now) (s .args .label .now) _ _ (told (c .before .before .before)) (c .before .before .lookup-number .ensures)) (c .before .if1 .taken) (search needs)
 
 slice-aggregate-used-stretch : tie.Need-slice-aggregate-used-stretch
-slice-aggregate-used-stretch c = let s = c .before .before .before .before .before .before .before .before .before .before .before .before in sym (sizes s .name-size)
+slice-aggregate-used-stretch c = let s = begun (c .before .before) in sym (sizes s .name-size)
 
 front-of-requires : tie.Need-front-of-requires
 front-of-requires c κs = search needs
@@ -73,27 +76,38 @@ front-of-requires c κs = search needs
 used-stretch-requires : tie.Need-used-stretch-requires
 used-stretch-requires c κs =
     let e = c .before .before .before in
-    let s = start e in
+    let s = begun e in
     let st = s .args .t1 in
     let store = s .args .store .now in
     let size = sizes s .name-size in
     let u = undamaged st store (may e .0) in
-    (used-fits st store u, omega (arith, name-most st store (may e .0)), name-ok st store u, may e .1, tells-place st store (s .args .label .now) _ (judged (c .before .before .before .before .before .before)) (may e .0) _ (c .front-of .ensures))
+    record {
+      used-fits = used-fits st store u;
+      name-fits = omega (arith, name-most st store (may e .0));
+      named = name-ok st store u;
+      labelled = may e .1;
+      passed = tells-place st store (s .args .label .now) _ (judged (e .before .before .before)) (may e .0) _ (c .front-of .ensures);
+    }
 
 any-listed-requires : tie.Need-any-listed-requires
 any-listed-requires c κs =
     let e = c .before .before .before .before .before in
-    let s = start e in
+    let s = begun e in
     let st = s .args .t1 in
     let store = s .args .store .now in
     let size = sizes s in
     let fits = stretch-fits st store (s .args .label .now) (may e .0) (may e .1) (st .name .len) (c .before .used-stretch .result .now) (sym (name-size st store size (may e .0))) (c .before .used-stretch .ensures .bytes) in
-    (name-most st store (may e .0), fits, tombstone-most st store (may e .0), tombstone-ascends st store (may e .0))
+    record {
+      short-name = name-most st store (may e .0);
+      keys-fit = fits;
+      few = tombstone-most st store (may e .0);
+      ascends = tombstone-ascends st store (may e .0);
+    }
 
 returns-2 : tie.Need-returns-2
 returns-2 c =
     let e = c .before .before .before .before .before .before in
-    let s = start e in
+    let s = begun e in
     let st = s .args .t1 in
     let size = sizes s in
     looked st (s .args .store) (c .before .before .used-stretch .result) (s .args .label .now) (e .before .lookup-number .result) (c .any-listed .result) size (may e .0) (may e .1) (e .if1 .left) (c .before .before .used-stretch .ensures) (c .any-listed .ensures)

@@ -68,11 +68,12 @@ same-word-requires-3 c κs = search needs
 
 returns-5 : tie.Need-returns-5
 returns-5 c =
-    let a : List ℕ = c .before .before .before .before .before .before .before .before .before .before .args .a .now in
+    let first = c .before .before .before .before in
+    let a : List ℕ = first .before .before .before .before .before .before .args .a .now in
     let h : 8 ≤ length a = omega arith in
     let l : 16 ≤ length a = omega arith in
     let r : length a ≤ 24 = omega arith in
-    three _ _ 8 _ _ h (c .before .before .before .before .same-word .ensures) (c .before .before .before .same-word2 .ensures) _ l r (c .same-word3 .ensures)
+    three _ _ 8 _ _ h (first .same-word .ensures) (c .before .before .before .same-word2 .ensures) _ l r (c .same-word3 .ensures)
 
 starts-words-requires : tie.Need-starts-words-requires
 starts-words-requires c κs = search needs

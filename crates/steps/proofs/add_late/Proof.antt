@@ -17,7 +17,7 @@ late-answer-requires : tie.Need-late-answer-requires
 late-answer-requires c κs = search needs
 
 returns : tie.Need-returns
-returns c = c .late-answer .ensures ∙ rw (c .before .before .near-with-dot .ensures, c .before .sees .ensures, c .before .before .before .tombstone-full .ensures)
+returns c = let e = c .before .before in c .late-answer .ensures ∙ rw (e .before .near-with-dot .ensures, e .sees .ensures, e .before .before .tombstone-full .ensures)
 
 pub add-late-spec : {M : Type 1} → statement M
 add-late-spec =

@@ -3,18 +3,18 @@ use Prim.Native.Nat.{ℕ, _+_, _≤_}
 use mathlib.Core.Path.{_≡_}
 use mathlib.Core.Bool.{true}
 use native.Mathlib.Omega.{arith}
-use mathlib.Core.List.{_++_, append-assoc}
+use mathlib.Core.List.{append-assoc}
 use lib.ListN.{length, take, drop}
 use lib.Seq.{take-at}
 use Rattle.wire.specs.Lists.{all}
-use Rattle.wire.specs.Bytes.{Bytes, startsWith, putAt, insertedAt}
+use Rattle.wire.specs.Bytes.{Bytes, startsWith, putAt}
 use Rattle.dots.specs.Names.{Name, Label, nameOk, labelOk, nameMost, labelMost}
 use Rattle.dots.specs.declared.Dot.{Dot}
 use Rattle.dots.specs.Entries.{entry}
 use Rattle.keys.specs.Entry.{prefix, suffix, entryKey}
 use Rattle.keys.proofs.EntryKeys.{entry-key-parts, length-prefix, length-entry-key}
 use Rattle.store.specs.Cut.{keysOf}
-use Rattle.store.specs.Place.{placeIn, insertedEntry, Passed}
+use Rattle.store.specs.Place.{insertedKey, insertedEntry, LabelPassed, PlacePast}
 use Rattle.store.proofs.Starts.{name-most, label-most, label-some, put-read, put-size, put-room}
 use borrow.Author.Needs.{needs}
 use Rattle.store.proofs.insert_entry.Statement.{statement}
@@ -32,17 +32,17 @@ module _ (name : Name) (label : Label) (d : Dot) (s t store : Bytes) (n used : �
   long ok = rw (key-read, length-entry-key) (omega (arith, label-some label ok))
 
   -- the keys from `low` on, among which its place is
-  module _ (low : ℕ) (p : Passed (length name) (prefix name ++ label) (take used store) low) where
+  module _ (low : ℕ) (p : LabelPassed name label (take used store) low) where
     begin : all (startsWith (prefix name)) (keysOf (length name) (take used store)) ≡ true → all (startsWith (take (length name + prefixFixed) (take n t))) (keysOf (length name) (drop low (take used store))) ≡ true
     begin every = rw (key-read, entry-key-parts, take-at (prefix name) _ (length name + prefixFixed) (length-prefix name)) (p .rest (startsWith (prefix name)) every)
 
-    placed : placeIn (take n t) (keysOf (length name) (take used store)) ≡ low + placeIn (take n t) (keysOf (length name) (drop low (take used store)))
-    placed = rw (key-read, entry-key-parts) (rw append-assoc at (p .placed (suffix d)))
+    placed : PlacePast (length name) (take used store) (take n t) low
+    placed = record { within = p .within; placed = rw (key-read, entry-key-parts) (rw append-assoc at (p .placed (suffix d))) }
 
   room : used + (length name + length label + labelKeyFixed) ≤ length store → used + length (take n t) ≤ length store
   room h = rw (key-read, length-entry-key) h
 
-  inserted : (store′ : Bytes) → store′ ≡ insertedAt store used (placeIn (take n t) (keysOf (length name) (take used store))) (take n t)
+  inserted : (store′ : Bytes) → store′ ≡ insertedKey (length name) store used (take n t)
       → store′ ≡ insertedEntry name store used (entry label d)
   inserted store′ e = rw key-read at e
 
@@ -59,7 +59,7 @@ slice-aggregate-insert-key : tie.Need-slice-aggregate-insert-key
 slice-aggregate-insert-key c = search (needs, put-size, length-entry-key)
 
 insert-key-requires : tie.Need-insert-key-requires
-insert-key-requires c κs = (search (needs, name-most), search (needs, long), search (needs, room), search needs, search (needs, placed), search (needs, begin))
+insert-key-requires c κs = (search (needs, name-most), search (needs, room), record { long = search (needs, long); past = search (needs, placed); alike = search (needs, begin) })
 
 add-result : tie.Need-add-result
 add-result c = search needs

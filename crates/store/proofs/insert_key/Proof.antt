@@ -6,13 +6,13 @@ use lib.ListN.{length, take}
 use lib.Seq.{length-take-le}
 use Rattle.wire.specs.Bytes.{Bytes, insertedAt}
 use Rattle.store.specs.Cut.{keysOf}
-use Rattle.store.specs.Place.{placeIn}
+use Rattle.store.specs.Place.{placeIn, insertedKey}
 use borrow.Author.Needs.{needs}
 use Rattle.store.proofs.insert_key.Statement.{statement}
 use Rattle.store.proofs.insert_key.Tie as tie
 
 module _ (store key : Bytes) (used n at : ℕ) (placed : at ≡ placeIn key (keysOf n (take used store))) where
-  inserted : (t : Bytes) → t ≡ insertedAt store used at key → t ≡ insertedAt store used (placeIn key (keysOf n (take used store))) key
+  inserted : (t : Bytes) → t ≡ insertedAt store used at key → t ≡ insertedKey n store used key
   inserted t e = rw placed at e
 
 module _ (store : Bytes) (used k : ℕ) (room : used + k ≤ length store) where

@@ -2,15 +2,13 @@
 use Prim.Native.Nat.{ℕ, _+_, _≤_}
 use mathlib.Core.Path.{_≡_}
 use mathlib.Core.Bool.{true}
-use mathlib.Core.List.{[], _∷_, _++_, append-assoc}
+use mathlib.Core.List.{[], _∷_, append-assoc}
 use native.Mathlib.Omega.{arith}
-use lib.ListN.{length, take, drop}
+use lib.ListN.{length, take}
 use denote.Ref.{RefT}
-use Rattle.wire.specs.Bytes.{Bytes, startsWith, putAt, IsPart}
+use Rattle.wire.specs.Bytes.{Bytes, putAt}
 use Rattle.dots.specs.Names.{Name, Label, nameOk, labelOk, nameMost, labelMost}
-use Rattle.keys.specs.Entry.{prefix}
-use Rattle.store.specs.Cut.{keysOf}
-use Rattle.store.specs.Place.{lengthWhile, placeIn, labelStart, stretchStart, stretchEnd, Passed}
+use Rattle.store.specs.Place.{labelStart, stretchStart, stretchEnd, LabelPassed, PlacePast, IsStretchFrom, IsStretch}
 use Rattle.store.proofs.Starts.{name-most, label-most, length-label-start, put-read, put-size, put-room}
 use borrow.Author.Needs.{needs}
 use Rattle.store.proofs.stretch.Statement.{statement}
@@ -22,15 +20,16 @@ fits name label ok ok′ = omega (arith, name-most name ok, label-most label ok�
 
 module _ (name : Name) (label : Label) (s t : Bytes) (n : ℕ) (put : t ≡ putAt s 0 (labelStart name label)) (count : n ≡ length name + length label + 5) where
   stretched : (keys r : RefT Bytes)
-      → IsPart keys (placeIn (take n t) (keysOf (length name) (keys .now))) (placeIn (take n t) (keysOf (length name) (keys .now)) + lengthWhile (startsWith (take n t)) (keysOf (length name) (drop (placeIn (take n t) (keysOf (length name) (keys .now))) (keys .now)))) r
-      → IsPart keys (stretchStart name label (keys .now)) (stretchEnd name label (keys .now)) r
+      → IsStretchFrom (length name) keys (take n t) r → IsStretch name label keys r
   unfolding stretchStart stretchEnd
   stretched keys r part = rw (put-read s t (labelStart name label) n (length name + length label + 5) put count (length-label-start name label)) at part
 
-  placed-start : (keys : Bytes) (low : ℕ) → Passed (length name) (prefix name ++ label) keys low
-      → placeIn (take n t) (keysOf (length name) keys) ≡ low + placeIn (take n t) (keysOf (length name) (drop low keys))
+  placed-start : (keys : Bytes) (low : ℕ) → LabelPassed name label keys low → PlacePast (length name) keys (take n t) low
   unfolding labelStart
-  placed-start keys low p = rw (put-read s t (labelStart name label) n (length name + length label + 5) put count (length-label-start name label)) (rw append-assoc at (p .placed (0 ∷ [])))
+  placed-start keys low p = record {
+    within = p .within;
+    placed = rw (put-read s t (labelStart name label) n (length name + length label + 5) put count (length-label-start name label)) (rw append-assoc at (p .placed (0 ∷ [])));
+  }
 
 slice-aggregate-put-label-start : tie.Need-slice-aggregate-put-label-start
 slice-aggregate-put-label-start c = search needs
@@ -45,7 +44,7 @@ slice-aggregate-stretch-from : tie.Need-slice-aggregate-stretch-from
 slice-aggregate-stretch-from c = search (needs, put-size, length-label-start)
 
 stretch-from-requires : tie.Need-stretch-from-requires
-stretch-from-requires c κs = (search (needs, name-most), search needs, search (needs, placed-start))
+stretch-from-requires c κs = (search (needs, name-most), search (needs, placed-start))
 
 returns : tie.Need-returns
 returns c = search (needs, stretched)

@@ -6,14 +6,14 @@ use denote.Ref.{RefT}
 use Rattle.wire.specs.Bytes.{Bytes, startsWith, IsPart}
 use Rattle.wire.proofs.Parts.{rest-part}
 use Rattle.store.specs.Cut.{keysOf}
-use Rattle.store.specs.Place.{lengthWhile, placeIn}
+use Rattle.store.specs.Place.{lengthWhile, placeIn, IsStretchFrom}
 use borrow.Author.Needs.{needs}
 use Rattle.store.proofs.stretch_from.Statement.{statement}
 use Rattle.store.proofs.stretch_from.Tie as tie
 
 stretched : (keys r : RefT Bytes) (n : ℕ) (start : Bytes) (at len : ℕ) → at ≡ placeIn start (keysOf n (keys .now))
     → len ≡ lengthWhile (startsWith start) (keysOf n (take (length (keys .now) - at) (drop at (keys .now)))) → IsPart keys at (at + len) r
-    → IsPart keys (placeIn start (keysOf n (keys .now))) (placeIn start (keysOf n (keys .now)) + lengthWhile (startsWith start) (keysOf n (drop (placeIn start (keysOf n (keys .now))) (keys .now)))) r
+    → IsStretchFrom n keys start r
 stretched keys r n start at len placed ran part =
     let is-run : len ≡ lengthWhile (startsWith start) (keysOf n (drop at (keys .now))) = rw rest-part at ran in
     rw (← placed, ← is-run) part

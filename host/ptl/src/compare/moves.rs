@@ -3,7 +3,7 @@
 use super::random::Random;
 use super::starts::store_length;
 use super::{dots, messages, pools};
-use crate::script::{Command, Rack, Tool};
+use crate::script::{Command, KeyToWrite, Rack, Tool};
 use limits::{label_key_size, DOT_SIZE, KEY_FRONT, LINE_FIXED, MESSAGE_HEAD, STORE_MAX};
 use std::collections::BTreeMap;
 
@@ -84,7 +84,7 @@ pub fn formats(random: &mut Random, rack: &Rack) -> Command {
             let key = key_to_write(random);
             let need = key_bytes(&key).len();
             let out = pools::out(random, need);
-            key.command(out)
+            Command::Key { key, out }
         }
         1 => Command::ReadKey {
             bytes: key_to_read(random),
@@ -92,28 +92,6 @@ pub fn formats(random: &mut Random, rack: &Rack) -> Command {
         _ => Command::ReadMessage {
             bytes: messages::made(random, rack, true),
         },
-    }
-}
-
-/// The arguments of writing a key.
-struct KeyToWrite {
-    kind: u8,
-    name: Vec<u8>,
-    label: Vec<u8>,
-    actor: u8,
-    counter: u64,
-}
-
-impl KeyToWrite {
-    fn command(self, out: usize) -> Command {
-        Command::Key {
-            kind: self.kind,
-            name: self.name,
-            label: self.label,
-            actor: self.actor,
-            counter: self.counter,
-            out,
-        }
     }
 }
 

@@ -16,24 +16,15 @@ const LABELS: [&[u8]; 9] = [
     &[b'x'; LABEL_MAX - 1],
     &[0xff; LABEL_MAX],
 ];
-const BAD_LABELS: [&[u8]; 6] = [
-    b"",
-    &[b'x'; LABEL_MAX + 1],
-    b"\0",
-    b"B\x007",
-    b"B7\0",
-    &[b'y'; 255],
-];
+const BAD_LABELS: [&[u8]; 7] = bad(&[b'x'; LABEL_MAX + 1]);
 
 const NAMES: [&[u8]; 5] = [b"R1", b"R", b"R12", b"\xff", &[b'n'; NAME_MAX]];
-const BAD_NAMES: [&[u8]; 6] = [
-    b"",
-    &[b'n'; NAME_MAX + 1],
-    b"\0",
-    b"R\0",
-    b"\x00R",
-    &[b'm'; 255],
-];
+const BAD_NAMES: [&[u8]; 7] = bad(&[b'n'; NAME_MAX + 1]);
+
+/// What no name and no label may be, with one that is too long.
+const fn bad(long: &[u8]) -> [&[u8]; 7] {
+    [b"", long, b"\0", b"\x00R", b"R\x001", b"R1\0", &[b'y'; 255]]
+}
 
 const NAME: u64 = NAME_MAX as u64;
 const LABEL: u64 = LABEL_MAX as u64;

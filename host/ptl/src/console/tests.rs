@@ -166,11 +166,11 @@ fn reasons_that_name_a_limit_name_the_right_one() {
     let name = "n".repeat(NAME_MAX + 1);
     assert_eq!(
         both(format!("poke name {name}").as_bytes()),
-        format!("? name over {NAME_MAX} bytes\n")
+        format!("? field 2: name over {NAME_MAX} bytes\n")
     );
     assert_eq!(
         both(format!("poke base {} 1", ACTOR_MAX + 1).as_bytes()),
-        format!("? rows are 1 to {ACTOR_MAX}\n")
+        format!("? field 2: rows are 1 to {ACTOR_MAX}\n")
     );
     assert_eq!(
         both(&long_line(LINE_MAX + 1)),

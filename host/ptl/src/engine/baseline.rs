@@ -27,16 +27,7 @@ impl Engine for Baseline {
             Command::List { .. } => listed(baseline::list(block, store, out)),
             Command::Lookup { label } => looked(baseline::lookup(block, store, label)),
             Command::Compact => Reply::Answered(baseline::compact(block, store)),
-            Command::Key {
-                kind,
-                name,
-                label,
-                actor,
-                counter,
-                ..
-            } => wrote(baseline::write_key(
-                *kind, name, label, *actor, *counter, out,
-            )),
+            Command::Key { key, .. } => wrote(key.written_by(baseline::write_key, out)),
             Command::ReadKey { bytes } => key(baseline::read_key(bytes)),
             Command::ReadMessage { bytes } => message(baseline::read_message(bytes)),
         }

@@ -25,14 +25,7 @@ impl Engine for Product {
             Command::List { .. } => Reply::Listed(calls::list(state, store, out)),
             Command::Lookup { label } => Reply::Looked(calls::lookup(state, store, label)),
             Command::Compact => Reply::Answered(calls::compact(state, store)),
-            Command::Key {
-                kind,
-                name,
-                label,
-                actor,
-                counter,
-                ..
-            } => Reply::Wrote(calls::write_key(*kind, name, label, *actor, *counter, out)),
+            Command::Key { key, .. } => Reply::Wrote(key.written_by(calls::write_key, out)),
             Command::ReadKey { bytes } => Reply::Key(calls::read_key(bytes)),
             Command::ReadMessage { bytes } => Reply::Message(calls::read_message(bytes)),
         }

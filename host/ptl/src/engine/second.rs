@@ -2,7 +2,7 @@
 //! blocks, its fields as the places where the formats put them.
 
 use super::Engine;
-use crate::script::{Command, Rack, Reply};
+use crate::script::{Command, KeyToWrite, Rack, Reply};
 use limits::{DOT_SIZE, KEY_FRONT, KEY_MIDDLE, MESSAGE_HEAD};
 use ptl::calls::{KeyRead, Listed, Looked, MessageRead, Span, Wrote};
 use ptl::{Actor, State};
@@ -42,21 +42,18 @@ impl Engine for Second {
                 let done = reference::compact(&of_block(state), store);
                 Reply::Answered(leave(state, done).answer)
             }
-            Command::Key {
-                kind,
-                name,
-                label,
-                actor,
-                counter,
-                ..
-            } => wrote(match KeyKind::of_letter(*kind) {
-                Some(kind) => reference::write_key(kind, name, label, *actor, *counter, out),
-                None => (reference::BAD_SHAPE, 0),
-            }),
+            Command::Key { key, .. } => wrote(write_key(key, out)),
             Command::ReadKey { bytes } => Reply::Key(key(reference::read_key(bytes))),
             Command::ReadMessage { bytes } => Reply::Message(message(bytes)),
         }
     }
+}
+
+fn write_key(key: &KeyToWrite, out: &mut [u8]) -> (u8, u64) {
+    let Some(kind) = KeyKind::of_letter(key.kind) else {
+        return (reference::BAD_SHAPE, 0);
+    };
+    reference::write_key(kind, &key.name, &key.label, key.actor, key.counter, out)
 }
 
 fn wrote((answer, written): (u8, u64)) -> Reply {

@@ -1,39 +1,57 @@
 //! The fields of a line by their kinds: each is read from its one form or refused, and written in
 //! that form.
 
-use super::{Why, OUT_MAX};
+use super::{Reason, Why, OUT_MAX};
 use limits::DOT_SIZE;
 use ptl::{dots_of, Dot};
 use std::fmt::Write;
 
-/// The fields of a line, one after the other.
+/// The words of a line, one after the other.
+pub type Words<'a> = std::slice::Split<'a, u8, fn(&u8) -> bool>;
+
+/// The words of a line. Refused is an empty one: two spaces, or one at either end.
+pub fn words(line: &[u8]) -> Result<Words<'_>, Reason> {
+    if line.contains(&b'\r') {
+        return Err("carriage return");
+    }
+    let is_space: fn(&u8) -> bool = |byte| *byte == b' ';
+    let words = line.split(is_space);
+    match words.clone().any(<[u8]>::is_empty) {
+        true => Err("space at an end or two spaces"),
+        false => Ok(words),
+    }
+}
+
+/// The fields of a command: the words after its own, read from left to right.
 pub struct Fields<'a> {
-    rest: std::slice::Split<'a, u8, fn(&u8) -> bool>,
+    rest: Words<'a>,
+    /// The field that was asked for last, counted from 1.
+    at: usize,
 }
 
 impl<'a> Fields<'a> {
-    /// Refuses lines with an empty field: two spaces, or one at either end.
-    pub fn of(line: &'a [u8]) -> Result<Fields<'a>, Why> {
-        if line.contains(&b'\r') {
-            return Err("carriage return");
-        }
-        let is_space: fn(&u8) -> bool = |byte| *byte == b' ';
-        let rest = line.split(is_space);
-        if rest.clone().any(<[u8]>::is_empty) {
-            return Err("space at an end or two spaces");
-        }
-        Ok(Fields { rest })
+    pub fn new(rest: Words<'a>) -> Fields<'a> {
+        Fields { rest, at: 0 }
     }
 
-    pub fn next(&mut self) -> Result<&'a [u8], Why> {
-        self.rest.next().ok_or("missing field")
+    pub fn next(&mut self) -> Result<&'a [u8], Reason> {
+        self.at += 1;
+        self.rest.next().ok_or("missing")
     }
 
     /// Refuses anything left over.
-    pub fn end(mut self) -> Result<(), Why> {
-        match self.rest.next() {
-            None => Ok(()),
-            Some(_) => Err("too many fields"),
+    pub fn end(&mut self) -> Result<(), Reason> {
+        match self.next() {
+            Ok(_) => Err("one too many"),
+            Err(_) => Ok(()),
+        }
+    }
+
+    /// A reason that is about the field asked for last.
+    pub fn why(&self, reason: Reason) -> Why {
+        Why {
+            field: Some(self.at),
+            reason,
         }
     }
 }
@@ -45,7 +63,7 @@ pub type Written = Result<String, String>;
 pub trait Field {
     type Value;
 
-    fn read(fields: &mut Fields) -> Result<Self::Value, Why>;
+    fn read(fields: &mut Fields) -> Result<Self::Value, Reason>;
 
     fn write(value: &Self::Value) -> Written;
 
@@ -61,7 +79,7 @@ pub struct Num;
 impl Field for Num {
     type Value = u64;
 
-    fn read(fields: &mut Fields) -> Result<u64, Why> {
+    fn read(fields: &mut Fields) -> Result<u64, Reason> {
         number(fields.next()?)
     }
 
@@ -76,7 +94,7 @@ pub struct Byte;
 impl Field for Byte {
     type Value = u8;
 
-    fn read(fields: &mut Fields) -> Result<u8, Why> {
+    fn read(fields: &mut Fields) -> Result<u8, Reason> {
         byte(fields.next()?)
     }
 
@@ -91,7 +109,7 @@ pub struct Size<const MOST: usize>;
 impl<const MOST: usize> Field for Size<MOST> {
     type Value = usize;
 
-    fn read(fields: &mut Fields) -> Result<usize, Why> {
+    fn read(fields: &mut Fields) -> Result<usize, Reason> {
         let size = usize::try_from(Num::read(fields)?).ok();
         size.filter(|size| *size <= MOST).ok_or("number too large")
     }
@@ -107,7 +125,7 @@ pub struct Out;
 impl Field for Out {
     type Value = usize;
 
-    fn read(fields: &mut Fields) -> Result<usize, Why> {
+    fn read(fields: &mut Fields) -> Result<usize, Reason> {
         Size::<OUT_MAX>::read(fields)
     }
 
@@ -126,11 +144,8 @@ pub struct Text;
 impl Field for Text {
     type Value = Vec<u8>;
 
-    fn read(fields: &mut Fields) -> Result<Vec<u8>, Why> {
-        match fields.next()? {
-            b"-" => Ok(Vec::new()),
-            field => bytes_of_text(field),
-        }
+    fn read(fields: &mut Fields) -> Result<Vec<u8>, Reason> {
+        bytes(fields, bytes_of_text)
     }
 
     fn write(bytes: &Vec<u8>) -> Written {
@@ -144,13 +159,8 @@ pub struct Hex;
 impl Field for Hex {
     type Value = Vec<u8>;
 
-    fn read(fields: &mut Fields) -> Result<Vec<u8>, Why> {
-        let pairs = match fields.next()? {
-            b"-" => return Ok(Vec::new()),
-            field => field.chunks(2),
-        };
-        let bytes = pairs.map(|pair| pair_of(pair, b'a')).collect::<Option<_>>();
-        bytes.ok_or("not hexadecimal")
+    fn read(fields: &mut Fields) -> Result<Vec<u8>, Reason> {
+        bytes(fields, bytes_of_hex)
     }
 
     fn write(bytes: &Vec<u8>) -> Written {
@@ -165,13 +175,8 @@ pub struct Dots;
 impl Field for Dots {
     type Value = Vec<u8>;
 
-    fn read(fields: &mut Fields) -> Result<Vec<u8>, Why> {
-        let pairs = match fields.next()? {
-            b"-" => return Ok(Vec::new()),
-            field => field.split(|byte| *byte == b','),
-        };
-        let dots: Result<Vec<Dot>, Why> = pairs.map(dot).collect();
-        Ok(ptl::dots_to_bytes(&dots?))
+    fn read(fields: &mut Fields) -> Result<Vec<u8>, Reason> {
+        bytes(fields, bytes_of_dots)
     }
 
     fn write(bytes: &Vec<u8>) -> Written {
@@ -188,7 +193,7 @@ pub struct KeyType;
 impl Field for KeyType {
     type Value = u8;
 
-    fn read(fields: &mut Fields) -> Result<u8, Why> {
+    fn read(fields: &mut Fields) -> Result<u8, Reason> {
         match fields.next()? {
             [kind @ (b'c' | b'd' | b'e' | b'z')] => Ok(*kind),
             _ => Err("key types are c, d, e and z"),
@@ -203,7 +208,7 @@ impl Field for KeyType {
     }
 }
 
-pub fn number(field: &[u8]) -> Result<u64, Why> {
+pub fn number(field: &[u8]) -> Result<u64, Reason> {
     let digits = field.iter().all(u8::is_ascii_digit);
     let leading_zero = field.len() > 1 && field[0] == b'0';
     if field.is_empty() || !digits || leading_zero {
@@ -213,18 +218,40 @@ pub fn number(field: &[u8]) -> Result<u64, Why> {
     text.parse().map_err(|_| "number too large")
 }
 
-fn byte(field: &[u8]) -> Result<u8, Why> {
+fn byte(field: &[u8]) -> Result<u8, Reason> {
     u8::try_from(number(field)?).map_err(|_| "number over 255")
 }
 
-fn dot(field: &[u8]) -> Result<Dot, Why> {
+/// The bytes that a field stands for; `-` stands for none.
+fn bytes(
+    fields: &mut Fields,
+    bytes_of: fn(&[u8]) -> Result<Vec<u8>, Reason>,
+) -> Result<Vec<u8>, Reason> {
+    match fields.next()? {
+        b"-" => Ok(Vec::new()),
+        field => bytes_of(field),
+    }
+}
+
+fn bytes_of_hex(field: &[u8]) -> Result<Vec<u8>, Reason> {
+    let bytes = field.chunks(2).map(|pair| pair_of(pair, b'a'));
+    bytes.collect::<Option<_>>().ok_or("not hexadecimal")
+}
+
+fn bytes_of_dots(field: &[u8]) -> Result<Vec<u8>, Reason> {
+    let dots = field.split(|byte| *byte == b',').map(dot);
+    let dots: Vec<Dot> = dots.collect::<Result<_, _>>()?;
+    Ok(ptl::dots_to_bytes(&dots))
+}
+
+fn dot(field: &[u8]) -> Result<Dot, Reason> {
     let mut parts = field.splitn(2, |byte| *byte == b':');
     let actor = byte(parts.next().unwrap_or_default())?;
     let counter = number(parts.next().ok_or("dot without counter")?)?;
     Ok(Dot::from((actor, counter)))
 }
 
-fn bytes_of_text(field: &[u8]) -> Result<Vec<u8>, Why> {
+fn bytes_of_text(field: &[u8]) -> Result<Vec<u8>, Reason> {
     let mut bytes = Vec::with_capacity(field.len());
     let mut rest = field;
     while let Some((first, after)) = rest.split_first() {

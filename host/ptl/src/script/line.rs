@@ -1,8 +1,8 @@
 //! From a line to the controller it speaks to and what it asks for, and back.
 
-use super::fields::{number, Fields, Written};
+use super::fields::{number, words, Fields, Written};
 use super::table::{Command, Tool, Worded};
-use super::{Why, RACKS};
+use super::{Reason, Why, RACKS};
 
 /// What a line asks for.
 #[derive(Clone, PartialEq, Eq, Debug)]
@@ -13,23 +13,33 @@ pub enum Line {
 
 /// Reads a line that is neither blank nor a comment.
 pub fn parse(line: &[u8]) -> Result<(usize, Line), Why> {
-    let mut fields = Fields::of(line)?;
-    let mut word = fields.next()?;
+    let mut words = words(line)?;
+    let mut word = words.next();
     let mut rack = 0;
-    if let Some(number) = word.strip_prefix(b"@") {
+    if let Some(number) = word.and_then(|word| word.strip_prefix(b"@")) {
         rack = rack_of(number)?;
-        word = fields.next()?;
+        word = words.next();
     }
-    let line = match Command::read(word, &mut fields)? {
-        Some(command) => Line::Command(command),
-        None => Line::Tool(Tool::read(word, &mut fields)?.ok_or("unknown command")?),
-    };
-    fields.end()?;
-    Ok((rack, line))
+    let word = word.ok_or("missing command")?;
+    let mut fields = Fields::new(words);
+    let asked = read(word, &mut fields).map_err(|reason| fields.why(reason))?;
+    Ok((rack, asked.ok_or("unknown command")?))
 }
 
-fn rack_of(field: &[u8]) -> Result<usize, Why> {
-    match number(field)? {
+/// What a word with the fields after it asks for; none if the tables lack the word.
+fn read(word: &[u8], fields: &mut Fields) -> Result<Option<Line>, Reason> {
+    let asked = match Command::read(word, fields)? {
+        Some(command) => Some(Line::Command(command)),
+        None => Tool::read(word, fields)?.map(Line::Tool),
+    };
+    if asked.is_some() {
+        fields.end()?;
+    }
+    Ok(asked)
+}
+
+fn rack_of(digits: &[u8]) -> Result<usize, Reason> {
+    match number(digits)? {
         number if number < RACKS as u64 => Ok(number as usize),
         _ => Err("controllers are 0 to 15"),
     }

@@ -2,12 +2,14 @@
 //! again, with the replies to them.
 
 mod fields;
+mod key;
 mod line;
 mod poke;
 mod rack;
 mod reply;
 mod table;
 
+pub use key::KeyToWrite;
 pub use line::{line_to, parse, Line};
 pub use poke::Poke;
 pub use rack::Rack;
@@ -15,9 +17,37 @@ pub use reply::Reply;
 pub use table::{Command, Tool, Worded};
 
 use limits::ACTORS;
+use std::fmt;
+
+/// What is wrong with a field or with a line.
+pub type Reason = &'static str;
 
 /// Why a line is no command, or cannot be carried out.
-pub type Why = &'static str;
+#[derive(Clone, Copy, PartialEq, Eq, Debug)]
+pub struct Why {
+    /// The field that the reason is about, counted from 1 after the command's word; none if it is
+    /// the whole line.
+    field: Option<usize>,
+    reason: Reason,
+}
+
+impl From<Reason> for Why {
+    fn from(reason: Reason) -> Why {
+        Why {
+            field: None,
+            reason,
+        }
+    }
+}
+
+impl fmt::Display for Why {
+    fn fmt(&self, to: &mut fmt::Formatter) -> fmt::Result {
+        match self.field {
+            Some(field) => write!(to, "field {field}: {}", self.reason),
+            None => write!(to, "{}", self.reason),
+        }
+    }
+}
 
 /// The number of controllers: one for each actor.
 pub const RACKS: usize = ACTORS;

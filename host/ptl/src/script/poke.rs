@@ -1,9 +1,15 @@
 //! Pokes: a field of the state or a byte of the store, set whatever that breaks.
 
 use super::fields::{text, Byte, Field, Fields, Num, Size, Text, Written};
-use super::{Rack, Why};
+use super::{Rack, Reason, Why};
 use limits::{ACTOR_MAX, NAME_MAX, TOMBSTONE_DOTS_MAX};
 use ptl::{Actor, Dot};
+
+/// The field after a poke's kind says where.
+const OUTSIDE: Why = Why {
+    field: Some(2),
+    reason: "outside what can be set",
+};
 
 #[derive(Clone, PartialEq, Eq, Debug)]
 pub enum Poke {
@@ -21,7 +27,7 @@ pub enum Poke {
 impl Field for Poke {
     type Value = Poke;
 
-    fn read(fields: &mut Fields) -> Result<Poke, Why> {
+    fn read(fields: &mut Fields) -> Result<Poke, Reason> {
         Ok(match fields.next()? {
             b"used" => Poke::Used(Num::read(fields)?),
             b"actor" => Poke::Actor(Byte::read(fields)?),
@@ -55,7 +61,7 @@ impl Field for Poke {
     }
 }
 
-fn name(fields: &mut Fields) -> Result<Vec<u8>, Why> {
+fn name(fields: &mut Fields) -> Result<Vec<u8>, Reason> {
     let name = Text::read(fields)?;
     if name.len() > NAME_MAX {
         return Err("name over 16 bytes");
@@ -64,7 +70,7 @@ fn name(fields: &mut Fields) -> Result<Vec<u8>, Why> {
 }
 
 /// An actor that has a row.
-fn row(fields: &mut Fields) -> Result<u8, Why> {
+fn row(fields: &mut Fields) -> Result<u8, Reason> {
     match Byte::read(fields)? {
         actor @ 1..=ACTOR_MAX => Ok(actor),
         _ => Err("rows are 1 to 16"),
@@ -91,6 +97,6 @@ impl Poke {
                 None => can = false,
             },
         }
-        can.then_some(()).ok_or("outside what can be set")
+        can.then_some(()).ok_or(OUTSIDE)
     }
 }

@@ -1,8 +1,8 @@
 //! Every command of the console, once: its word, its fields and the answers that it can give. An
 //! output is lent to a command that has a field `Out`.
 
-use super::fields::{Byte, Dots, Field, Fields, Hex, KeyType, Num, Out, Size, Text, Written};
-use super::{Poke, Why, BUFFER_MAX};
+use super::fields::{Byte, Dots, Field, Fields, Hex, Out, Size, Text, Written};
+use super::{KeyToWrite, Poke, Reason, BUFFER_MAX};
 
 /// What a line says by a word and fields: one row of a table.
 pub trait Worded: Sized {
@@ -19,7 +19,7 @@ pub trait Worded: Sized {
     fn out(&self) -> usize;
 
     /// Reads the fields after this word; none if the table lacks the word.
-    fn read(word: &[u8], fields: &mut Fields) -> Result<Option<Self>, Why>;
+    fn read(word: &[u8], fields: &mut Fields) -> Result<Option<Self>, Reason>;
 }
 
 /// An enum of the rows of a table: variant, word, fields of their kinds, answers.
@@ -53,7 +53,7 @@ macro_rules! table {
                 }
             }
 
-            fn read(word: &[u8], fields: &mut Fields) -> Result<Option<$name>, Why> {
+            fn read(word: &[u8], fields: &mut Fields) -> Result<Option<$name>, Reason> {
                 $(if word == $word.as_bytes() {
                     return Ok(Some($name::$row $({ $($field: <$kind>::read(fields)?),* })?));
                 })*
@@ -74,8 +74,7 @@ table! {
     List "list" { out: Out } => [0, 1, 13];
     Lookup "lookup" { label: Text } => [0, 1, 5];
     Compact "compact" => [0, 1];
-    Key "key" { kind: KeyType, name: Text, label: Text, actor: Byte, counter: Num, out: Out }
-        => [0, 4, 5, 6, 13];
+    Key "key" { key: KeyToWrite, out: Out } => [0, 4, 5, 6, 13];
     ReadKey "readkey" { bytes: Hex } => [0, 4];
     ReadMessage "readmessage" { bytes: Hex } => [0, 2, 3, 4, 5, 6];
 }

@@ -1,7 +1,8 @@
 //! The console of this program: one line in, one line out.
 
 use crate::controller::Controller;
-use crate::fields::{byte, dots, dots_of, hex, hex_of, number, size, text, text_of, Why};
+use crate::fields::{about, byte, dots, hex, key_type, name, number, row, size, text};
+use crate::fields::{dots_of, hex_of, text_of, Fields, Why};
 use reference::*;
 
 /// The number of controllers.
@@ -12,22 +13,6 @@ const OUT: usize = 1_048_576;
 const BUFFER: usize = 70_000;
 /// The last slot of the tombstone.
 const LAST_SLOT: usize = 127;
-/// The words of commands, and how many fields come after each.
-const COMMANDS: [(&[u8], usize); 13] = [
-    (b"setup", 2),
-    (b"add", 3),
-    (b"remove", 2),
-    (b"take", 1),
-    (b"list", 1),
-    (b"lookup", 1),
-    (b"compact", 0),
-    (b"key", 6),
-    (b"readkey", 1),
-    (b"readmessage", 1),
-    (b"state", 0),
-    (b"store", 0),
-    (b"buffer", 2),
-];
 
 pub struct Console {
     pub controllers: Vec<Controller>,
@@ -44,7 +29,7 @@ impl Console {
     /// The output line of a line; none for a blank one or a comment.
     pub fn answer(&mut self, line: &[u8]) -> Option<String> {
         let said = match line {
-            _ if line.len() > LINE => Err("line over 262144 bytes"),
+            _ if line.len() > LINE => Err("line over 262144 bytes".to_string()),
             [] | [b'#', ..] => return None,
             _ => self.obey(line),
         };
@@ -53,24 +38,27 @@ impl Console {
 
     fn obey(&mut self, line: &[u8]) -> Result<String, Why> {
         if line.contains(&b'\r') {
-            return Err("carriage return");
+            return Err("carriage return".to_string());
         }
-        let fields: Vec<&[u8]> = line.split(|byte| *byte == b' ').collect();
-        if fields.contains(&&b""[..]) {
-            return Err("space at an end or two spaces");
+        let words: Vec<&[u8]> = line.split(|byte| *byte == b' ').collect();
+        if words.contains(&&b""[..]) {
+            return Err("space at an end or two spaces".to_string());
         }
-        let (at, command) = match fields[0].strip_prefix(b"@") {
-            Some(digits) => (number(digits)?, &fields[1..]),
-            None => (0, &fields[..]),
+        let (at, command) = match words[0].strip_prefix(b"@") {
+            Some(digits) => (number(digits)?, &words[1..]),
+            None => (0, &words[..]),
         };
         if at >= CONTROLLERS {
-            return Err("controllers are 0 to 15");
+            return Err("controllers are 0 to 15".to_string());
         }
-        let controller = &mut self.controllers[at as usize];
-        match command {
-            [b"poke", what @ ..] => poke(controller, what),
-            [b"key" | b"readkey" | b"readmessage", ..] => format_line(command),
-            _ => call(controller, command),
+        let (word, given) = command.split_first().ok_or("missing command")?;
+        let (controller, given) = (&mut self.controllers[at as usize], Fields(given));
+        match *word {
+            b"poke" => poke(controller, &given),
+            b"key" => key_line(&given),
+            b"readkey" => given.last(1, hex).map(|key| read_key_line(&key)),
+            b"readmessage" => given.last(1, hex).map(|bytes| read_message_line(&bytes)),
+            _ => call(controller, word, &given),
         }
     }
 }
@@ -84,74 +72,53 @@ pub fn answers(input: &[u8]) -> String {
 }
 
 /// Commands that speak to a controller.
-fn call(controller: &mut Controller, command: &[&[u8]]) -> Result<String, Why> {
-    Ok(match command {
-        [b"setup", actor, name] => controller.set_up(byte(actor)?, &text(name)?),
-        [b"add", label, context, out] => {
-            controller.add(&text(label)?, &dots(context)?, size(out, OUT)?)
+fn call(controller: &mut Controller, word: &[u8], given: &Fields) -> Result<String, Why> {
+    Ok(match word {
+        b"setup" => controller.set_up(given.field(1, byte)?, &given.last(2, text)?),
+        b"add" => {
+            let (label, context) = (given.field(1, text)?, given.field(2, dots)?);
+            controller.add(&label, &context, given.last(3, size::<OUT>)?)
         }
-        [b"remove", context, out] => controller.remove(&dots(context)?, size(out, OUT)?),
-        [b"take", message] => controller.take(&hex(message)?),
-        [b"list", out] => controller.list(size(out, OUT)?),
-        [b"lookup", label] => controller.lookup(&text(label)?),
-        [b"compact"] => controller.compact(),
-        [b"state"] => controller.shown_state(),
-        [b"store"] => controller.shown_store(),
-        [b"buffer", length, fill] => controller.lend(size(length, BUFFER)?, byte(fill)?),
-        _ => return Err(miscounted(command)),
-    })
-}
-
-/// Commands of the formats, which need no controller.
-fn format_line(command: &[&[u8]]) -> Result<String, Why> {
-    Ok(match command {
-        [b"key", fields @ .., out] if fields.len() == 5 => key_line(fields, size(out, OUT)?)?,
-        [b"readkey", key] => read_key_line(&hex(key)?),
-        [b"readmessage", message] => read_message_line(&hex(message)?),
-        _ => return Err(miscounted(command)),
+        b"remove" => controller.remove(&given.field(1, dots)?, given.last(2, size::<OUT>)?),
+        b"take" => controller.take(&given.last(1, hex)?),
+        b"list" => controller.list(given.last(1, size::<OUT>)?),
+        b"lookup" => controller.lookup(&given.last(1, text)?),
+        b"compact" => given.end(0).map(|()| controller.compact())?,
+        b"state" => given.end(0).map(|()| controller.shown_state())?,
+        b"store" => given.end(0).map(|()| controller.shown_store())?,
+        b"buffer" => controller.lend(given.field(1, size::<BUFFER>)?, given.last(2, byte)?),
+        _ => return Err("unknown command".to_string()),
     })
 }
 
 /// `poke`: a field of the state or a byte of the store, set whatever that breaks.
-fn poke(controller: &mut Controller, what: &[&[u8]]) -> Result<String, Why> {
-    match what {
-        [b"used", length] => controller.state.used = number(length)?,
-        [b"actor", actor] => controller.state.actor = byte(actor)?,
-        [b"name", name] => controller.set_name(&text(name)?)?,
-        [b"namelen", length] => controller.state.name_len = number(length)?,
-        [b"base", actor, base] => controller.set_row(byte(actor)?, 0, number(base)?)?,
-        [b"window", actor, window] => controller.set_row(byte(actor)?, 1, number(window)?)?,
-        [b"dot", slot, actor, counter] => {
-            controller.set_dot(size(slot, LAST_SLOT)?, byte(actor)?, number(counter)?);
+fn poke(controller: &mut Controller, given: &Fields) -> Result<String, Why> {
+    match given.word(1)? {
+        b"used" => controller.state.used = given.last(2, number)?,
+        b"actor" => controller.state.actor = given.last(2, byte)?,
+        b"name" => controller.set_name(&given.last(2, name)?),
+        b"namelen" => controller.state.name_len = given.last(2, number)?,
+        b"base" => controller.set_row(given.field(2, row)?, 0, given.last(3, number)?),
+        b"window" => controller.set_row(given.field(2, row)?, 1, given.last(3, number)?),
+        b"dot" => {
+            let (slot, actor) = (given.field(2, size::<LAST_SLOT>)?, given.field(3, byte)?);
+            controller.set_dot(slot, actor, given.last(4, number)?);
         }
-        [b"count", count] => controller.state.count = number(count)?,
-        [b"byte", offset, value] => controller.set_byte(number(offset)?, byte(value)?)?,
-        _ => return Err("unknown poke"),
+        b"count" => controller.state.count = given.last(2, number)?,
+        b"byte" => {
+            let set = controller.set_byte(given.field(2, number)?, given.last(3, byte)?);
+            set.map_err(|reason| about(2, reason))?;
+        }
+        _ => return Err(about(1, "unknown poke")),
     }
     Ok("poke".to_string())
 }
 
-/// Why a command with this number of fields is none.
-fn miscounted(command: &[&[u8]]) -> Why {
-    let Some((word, fields)) = command.split_first() else {
-        return "missing field";
-    };
-    match COMMANDS.iter().find(|(known, _)| known == word) {
-        None => "unknown command",
-        Some((_, count)) if fields.len() < *count => "missing field",
-        Some(_) => "too many fields",
-    }
-}
-
-fn key_line(fields: &[&[u8]], room: usize) -> Result<String, Why> {
-    let kind = match fields[0] {
-        [letter] => KeyKind::of_letter(*letter),
-        _ => None,
-    };
-    let kind = kind.ok_or("key types are c, d, e and z")?;
-    let (name, label) = (text(fields[1])?, text(fields[2])?);
-    let (actor, counter) = (byte(fields[3])?, number(fields[4])?);
-    let mut out = vec![0; room];
+fn key_line(given: &Fields) -> Result<String, Why> {
+    let kind = given.field(1, key_type)?;
+    let (name, label) = (given.field(2, text)?, given.field(3, text)?);
+    let (actor, counter) = (given.field(4, byte)?, given.field(5, number)?);
+    let mut out = vec![0; given.last(6, size::<OUT>)?];
     let (answer, written) = write_key(kind, &name, &label, actor, counter, &mut out);
     Ok(format!("key {answer} {}", hex_of(&out[..written as usize])))
 }

@@ -1,7 +1,7 @@
 //! A controller of the console: its state, its lent store, and what each command does with them.
 //! Each gives the output line.
 
-use crate::fields::{dots_of, hex_of, joined, text_of, Why};
+use crate::fields::{dots_of, hex_of, joined, text_of, Reason};
 use reference::limits::STORE_MAX;
 use reference::*;
 
@@ -102,23 +102,15 @@ impl Controller {
         format!("buffer {length}")
     }
 
-    pub fn set_name(&mut self, name: &[u8]) -> Result<(), Why> {
-        if name.len() > 16 {
-            return Err("name over 16 bytes");
-        }
+    pub fn set_name(&mut self, name: &[u8]) {
         self.state.name = [0; 16];
         self.state.name[..name.len()].copy_from_slice(name);
         self.state.name_len = name.len() as u64;
-        Ok(())
     }
 
     /// The base (0) or the window (1) of an actor's row.
-    pub fn set_row(&mut self, actor: u8, part: usize, number: u64) -> Result<(), Why> {
-        if !(1..=16).contains(&actor) {
-            return Err("rows are 1 to 16");
-        }
+    pub fn set_row(&mut self, actor: u8, part: usize, number: u64) {
         self.state.clock[2 * (usize::from(actor) - 1) + part] = number;
-        Ok(())
     }
 
     pub fn set_dot(&mut self, slot: usize, actor: u8, counter: u64) {
@@ -127,7 +119,7 @@ impl Controller {
         place[1..].copy_from_slice(&counter.to_be_bytes());
     }
 
-    pub fn set_byte(&mut self, offset: u64, byte: u8) -> Result<(), Why> {
+    pub fn set_byte(&mut self, offset: u64, byte: u8) -> Result<(), Reason> {
         let place = usize::try_from(offset).ok();
         let place = place.and_then(|at| self.store.get_mut(at));
         *place.ok_or("outside what can be set")? = byte;

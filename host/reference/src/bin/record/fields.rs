@@ -2,11 +2,52 @@
 //!
 //! The page of the console leaves the words of a reason open; these are the words of `ptl console`.
 
-/// Why a line breaks the form.
-pub type Why = &'static str;
+use reference::KeyKind;
+
+/// What is wrong with a field or with a line.
+pub type Reason = &'static str;
+
+/// Why a line breaks the form: the reason, after the field that it is about if it is not the line.
+pub type Why = String;
+
+/// A reason about field n.
+pub fn about(n: usize, reason: Reason) -> Why {
+    format!("field {n}: {reason}")
+}
+
+/// What stands after a command's word. Fields are counted from 1.
+pub struct Fields<'a>(pub &'a [&'a [u8]]);
+
+impl Fields<'_> {
+    /// Field n as it stands.
+    pub fn word(&self, n: usize) -> Result<&[u8], Why> {
+        let word = self.0.get(n - 1).copied();
+        word.ok_or_else(|| about(n, "missing"))
+    }
+
+    /// Field n in its form.
+    pub fn field<T>(&self, n: usize, form: fn(&[u8]) -> Result<T, Reason>) -> Result<T, Why> {
+        form(self.word(n)?).map_err(|reason| about(n, reason))
+    }
+
+    /// Field n in its form, with none after it.
+    pub fn last<T>(&self, n: usize, form: fn(&[u8]) -> Result<T, Reason>) -> Result<T, Why> {
+        let read = self.field(n, form)?;
+        self.end(n)?;
+        Ok(read)
+    }
+
+    /// No more than n fields.
+    pub fn end(&self, n: usize) -> Result<(), Why> {
+        if self.0.len() > n {
+            return Err(about(n + 1, "one too many"));
+        }
+        Ok(())
+    }
+}
 
 /// NUM: decimal without leading zeros.
-pub fn number(field: &[u8]) -> Result<u64, Why> {
+pub fn number(field: &[u8]) -> Result<u64, Reason> {
     if field.is_empty() || !field.iter().all(u8::is_ascii_digit) {
         return Err("not a number");
     }
@@ -19,21 +60,29 @@ pub fn number(field: &[u8]) -> Result<u64, Why> {
 }
 
 /// A NUM of at most so much.
-pub fn size(field: &[u8], most: usize) -> Result<usize, Why> {
+pub fn size<const MOST: usize>(field: &[u8]) -> Result<usize, Reason> {
     let number = number(field)?;
-    if number > most as u64 {
+    if number > MOST as u64 {
         return Err("number too large");
     }
     Ok(number as usize)
 }
 
 /// A NUM from 0 to 255.
-pub fn byte(field: &[u8]) -> Result<u8, Why> {
+pub fn byte(field: &[u8]) -> Result<u8, Reason> {
     u8::try_from(number(field)?).map_err(|_| "number over 255")
 }
 
+/// An actor that has a row.
+pub fn row(field: &[u8]) -> Result<u8, Reason> {
+    match byte(field)? {
+        actor @ 1..=16 => Ok(actor),
+        _ => Err("rows are 1 to 16"),
+    }
+}
+
 /// TEXT: the bytes 21 to 7E for themselves, but for `%`; `%XX` for any byte; `-` for no bytes.
-pub fn text(field: &[u8]) -> Result<Vec<u8>, Why> {
+pub fn text(field: &[u8]) -> Result<Vec<u8>, Reason> {
     if field == b"-" {
         return Ok(Vec::new());
     }
@@ -47,8 +96,17 @@ pub fn text(field: &[u8]) -> Result<Vec<u8>, Why> {
     Ok(bytes)
 }
 
+/// A TEXT that a state has room for as its set name.
+pub fn name(field: &[u8]) -> Result<Vec<u8>, Reason> {
+    let name = text(field)?;
+    if name.len() > 16 {
+        return Err("name over 16 bytes");
+    }
+    Ok(name)
+}
+
 /// The first byte of a TEXT, and what stands after it.
-fn text_byte(field: &[u8]) -> Result<(u8, &[u8]), Why> {
+fn text_byte(field: &[u8]) -> Result<(u8, &[u8]), Reason> {
     match field {
         [b'%', high, low, after @ ..] => {
             let byte = pair(*high, *low, b"0123456789ABCDEF");
@@ -60,8 +118,17 @@ fn text_byte(field: &[u8]) -> Result<(u8, &[u8]), Why> {
     }
 }
 
+/// TYPE: the letter of a key's type.
+pub fn key_type(field: &[u8]) -> Result<KeyKind, Reason> {
+    let kind = match field {
+        [letter] => KeyKind::of_letter(*letter),
+        _ => None,
+    };
+    kind.ok_or("key types are c, d, e and z")
+}
+
 /// HEX: pairs of lower-case digits; `-` for no bytes.
-pub fn hex(field: &[u8]) -> Result<Vec<u8>, Why> {
+pub fn hex(field: &[u8]) -> Result<Vec<u8>, Reason> {
     if field == b"-" {
         return Ok(Vec::new());
     }
@@ -80,7 +147,7 @@ fn pair(high: u8, low: u8, digits: &[u8; 16]) -> Option<u8> {
 }
 
 /// DOTS: `actor:counter` joined by commas; `-` for none. Gives nine bytes a dot, rules unchecked.
-pub fn dots(field: &[u8]) -> Result<Vec<u8>, Why> {
+pub fn dots(field: &[u8]) -> Result<Vec<u8>, Reason> {
     if field == b"-" {
         return Ok(Vec::new());
     }
@@ -88,7 +155,7 @@ pub fn dots(field: &[u8]) -> Result<Vec<u8>, Why> {
     Ok(dots.collect::<Result<Vec<_>, _>>()?.concat())
 }
 
-fn dot(field: &[u8]) -> Result<Vec<u8>, Why> {
+fn dot(field: &[u8]) -> Result<Vec<u8>, Reason> {
     let colon = field.iter().position(|byte| *byte == b':');
     let actor = byte(&field[..colon.unwrap_or(field.len())])?;
     let counter = number(&field[colon.ok_or("dot without counter")? + 1..])?;

@@ -1,0 +1,54 @@
+-- The invariant: no more rows than there are were passed.
+use Prim.Native.Nat.{_-_, _≤_}
+use borrow.Author.Needs.{needs}
+use Rattle.console.proofs.bench.clock.Statement.{statement}
+use Rattle.console.proofs.bench.clock.Tie as tie
+
+abbrev Inv-loop : tie.InvT-loop
+Inv-loop state printed₀ i₀ t4 printed i = i ≤ 16
+
+abbrev μ-loop : tie.MeasureT-loop
+μ-loop state printed₀ i₀ t4 printed i = 16 - i
+
+loop-holds : tie.Need-loop-holds Inv-loop μ-loop
+loop-holds c = search needs
+
+row-requires : tie.Need-row-requires Inv-loop μ-loop
+row-requires c κs = search needs
+
+add-i : tie.Need-add-i Inv-loop μ-loop
+add-i c = search needs
+
+loop-less : tie.Need-loop-less Inv-loop μ-loop
+loop-less c = search needs
+
+loop-again : tie.Need-loop-again Inv-loop μ-loop
+loop-again c = search needs
+
+slice-aggregate-text : tie.Need-slice-aggregate-text Inv-loop μ-loop
+slice-aggregate-text c = search needs
+
+text-requires : tie.Need-text-requires Inv-loop μ-loop
+text-requires c κs = search needs
+
+returns : tie.Need-returns Inv-loop μ-loop
+returns c = search needs
+
+returns-2 : tie.Need-returns-2 Inv-loop μ-loop
+returns-2 c = search needs
+
+pub clock-spec : {M : Type 1} → statement M
+clock-spec =
+    tie.close
+    (tie.spec
+    Inv-loop
+    μ-loop
+    loop-holds
+    row-requires
+    add-i
+    loop-less
+    loop-again
+    slice-aggregate-text
+    text-requires
+    returns
+    returns-2)

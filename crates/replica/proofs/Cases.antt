@@ -1,0 +1,17 @@
+-- The slips as runs of the machine, by computing. Assumes nothing.
+use mathlib.Core.Path.{refl}
+use Rattle.wire.specs.Lists.{keep, any, all, compareLists, member, insert, insertAll}
+use Rattle.dots.specs.Entries.{prepend, linesOf}
+use Rattle.clock.specs.Row.{testBit, seen, trailingOnes, settled, marked, join}
+use Rattle.clock.specs.Clock.{rowAt, withRow, sees, joinDot, joinEach, joinAll}
+use Rattle.replica.specs.Machine.{apply, compacted, listing, effect}
+use Rattle.replica.specs.Cases.{run, SlipCases}
+
+pub slip-cases : SlipCases
+unfolding keep any all compareLists member insert insertAll prepend linesOf testBit seen trailingOnes settled marked join rowAt withRow sees joinDot joinEach joinAll apply compacted listing effect run
+slip-cases = record {
+  slip-1 = refl;
+  slip-2 = refl;
+  slip-3 = refl;
+  slip-5 = refl;
+}

@@ -1,0 +1,54 @@
+-- Document 01's slips that would light the wrong bin, as runs of the machine. (Slip 4 is the clock's: `clock/specs`.)
+use Prim.Native.Nat.{ℕ}
+use mathlib.Core.List.{List, [], _∷_}
+use mathlib.Core.Path.{_≡_}
+use Rattle.dots.specs.declared.Dot.{Dot}
+use Rattle.dots.specs.Names.{Label}
+use Rattle.dots.specs.Dots.{actorOf, dotOf}
+use Rattle.dots.specs.Entries.{Entry, entry, Line, line}
+use Rattle.dots.specs.Message.{add, remove}
+use Rattle.clock.specs.Row.{windowWidth}
+use Rattle.replica.specs.Clock.{ClockModel}
+use Rattle.replica.specs.Machine.{Call, ownAdd, ownRemove, takeIn, compact, State, setUp, listing, effect}
+use Rattle.replica.specs.RowClock.{rowClock}
+
+abbrev clock : ClockModel
+clock = rowClock windowWidth
+
+abbrev B7 : Label
+B7 = 0x42 ∷ 0x37 ∷ []
+
+abbrev B8 : Label
+B8 = 0x42 ∷ 0x38 ∷ []
+
+abbrev dot : ℕ → ℕ → Dot
+dot a n = dotOf (actorOf a) n
+
+-- accepted calls, one after the other
+unfoldable pub run : State clock → List Call → State clock
+run s [] = s
+run s (c ∷ cs) = run (effect clock s c) cs
+
+-- what is held and listed in the end
+pub record Shown : Type 0 where
+  pub keys : List Entry
+  pub tombstone : List Dot
+  pub listing : List Line
+
+-- calls of a fresh controller of actor a
+abbrev pub shown : ℕ → List Call → Shown
+shown a cs = let s = run (setUp clock (actorOf a)) cs in record { keys = s .keys; tombstone = s .tombstone; listing = listing clock s }
+
+pub record SlipCases : Type 0 where
+  -- an add that comes again after its key was compacted away is not stored
+  pub slip-1 : shown 2 (takeIn (add B7 (dot 1 1) []) ∷ takeIn (remove (dot 1 1 ∷ [])) ∷ compact ∷ takeIn (add B7 (dot 1 1) []) ∷ [])
+      ≡ record { keys = []; tombstone = []; listing = [] }
+  -- a context removes the dots that it lists, and none below them
+  pub slip-2 : shown 1 (ownAdd B7 [] ∷ ownAdd B8 [] ∷ ownRemove (dot 1 2 ∷ []) ∷ [])
+      ≡ record { keys = entry B7 (dot 1 1) ∷ entry B8 (dot 1 2) ∷ []; tombstone = dot 1 2 ∷ []; listing = line B7 (dot 1 1 ∷ []) ∷ [] }
+  -- a removed dot that was not seen joins the clock, so that its add is not stored, and not the tombstone
+  pub slip-3 : shown 2 (takeIn (remove (dot 1 1 ∷ [])) ∷ takeIn (add B7 (dot 1 1) []) ∷ [])
+      ≡ record { keys = []; tombstone = []; listing = [] }
+  -- a label stays while one of its dots does
+  pub slip-5 : shown 1 (ownAdd B7 [] ∷ takeIn (add B7 (dot 2 1) []) ∷ ownRemove (dot 1 1 ∷ []) ∷ [])
+      ≡ record { keys = entry B7 (dot 1 1) ∷ entry B7 (dot 2 1) ∷ []; tombstone = dot 1 1 ∷ []; listing = line B7 (dot 2 1 ∷ []) ∷ [] }
