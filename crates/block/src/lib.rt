@@ -3,6 +3,7 @@ ghost use mathlib.Core.Path.{_≡_};
 ghost use mathlib.Core.List.{[], _∷_, _++_};
 ghost use Prim.Native.Nat.{_+_, _*_, _≤_};
 ghost use lib.ListN.{length};
+ghost use Rattle.wire.specs.Loans.{before, after};
 ghost use Rattle.wire.specs.Bytes.{bigEndian, putAt};
 ghost use Rattle.clock.specs.Clock.{clockWords};
 ghost use Rattle.block.specs.Block.{blockSize, AreWords, wordsBytes, wordsAt, Fills, nameIn, tombstoneIn, stateBytes, stateIn, nameAt, clockAt, tombstoneAt, usedAt};
@@ -30,7 +31,7 @@ pub const STATE_SIZE: usize = USED_AT + 8;
 // Puts a number in eight bytes at a place. Returns the place after it.
 fn put_number(block: &mut [u8], at: usize, number: u64) -> usize
     requires { ⌜ at + 8 ≤ length (now block) ⌝ }
-    ensures { λ r. ⌜ (r ≡ at + 8) × (now (block .exit) ≡ putAt (now (block .entry)) at (bigEndian 8 number)) ⌝ }
+    ensures { λ r. ⌜ (r ≡ at + 8) × (after block ≡ putAt (before block) at (bigEndian 8 number)) ⌝ }
 {
     let bytes = wire::number_bytes(number);
     moves::put(block, at, &bytes)
@@ -39,7 +40,7 @@ fn put_number(block: &mut [u8], at: usize, number: u64) -> usize
 // Puts bytes and a number after them.
 fn put_with_number(block: &mut [u8], at: usize, bytes: &[u8], number: u64) -> usize
     requires { ⌜ at + length (now bytes) + 8 ≤ length (now block) ⌝ }
-    ensures { λ r. ⌜ Fills at r (now (bytes .entry) ++ bigEndian 8 number) (now (block .entry)) (now (block .exit)) ⌝ }
+    ensures { λ r. ⌜ Fills at r (before bytes ++ bigEndian 8 number) (before block) (after block) ⌝ }
 {
     let next = moves::put(block, at, bytes);
     put_number(block, next, number)
@@ -48,7 +49,7 @@ fn put_with_number(block: &mut [u8], at: usize, bytes: &[u8], number: u64) -> us
 // Puts words, eight bytes each.
 fn put_words(block: &mut [u8], at: usize, words: &[u64]) -> usize
     requires { ⌜ at + 8 * length (now words) ≤ length (now block) ⌝ }
-    ensures { λ r. ⌜ Fills at r (wordsBytes (now (words .entry))) (now (block .entry)) (now (block .exit)) × AreWords (now (words .entry)) ⌝ }
+    ensures { λ r. ⌜ Fills at r (wordsBytes (before words)) (before block) (after block) × AreWords (before words) ⌝ }
 {
     let mut next = at;
     let mut i = 0;
@@ -62,7 +63,7 @@ fn put_words(block: &mut [u8], at: usize, words: &[u64]) -> usize
 // Puts the actor in its place.
 fn put_actor(block: &mut [u8], actor: dots::Actor)
     requires { ⌜ length (now block) ≡ blockSize ⌝ }
-    ensures { λ _. ⌜ Fills 0 1 (actor .number ∷ []) (now (block .entry)) (now (block .exit)) ⌝ }
+    ensures { λ _. ⌜ Fills 0 1 (actor .number ∷ []) (before block) (after block) ⌝ }
 {
     let byte = [actor.number];
     moves::put(block, 0, &byte);
@@ -71,7 +72,7 @@ fn put_actor(block: &mut [u8], actor: dots::Actor)
 // Puts the set name and its length in their place.
 fn put_name(block: &mut [u8], name: calls::SetName)
     requires { ⌜ length (now block) ≡ blockSize ⌝ }
-    ensures { λ _. ⌜ Fills nameAt clockAt (name .bytes ++ bigEndian 8 (name .len)) (now (block .entry)) (now (block .exit)) ⌝ }
+    ensures { λ _. ⌜ Fills nameAt clockAt (name .bytes ++ bigEndian 8 (name .len)) (before block) (after block) ⌝ }
 {
     let bytes = name.bytes;
     put_with_number(block, NAME_AT, &bytes, name.len as u64);
@@ -80,7 +81,7 @@ fn put_name(block: &mut [u8], name: calls::SetName)
 // Puts the clock in its place.
 fn put_clock(block: &mut [u8], clock: clock::Clock)
     requires { ⌜ length (now block) ≡ blockSize ⌝ }
-    ensures { λ _. ⌜ Fills clockAt tombstoneAt (wordsBytes (clock .words)) (now (block .entry)) (now (block .exit)) × AreWords (clock .words) ⌝ }
+    ensures { λ _. ⌜ Fills clockAt tombstoneAt (wordsBytes (clock .words)) (before block) (after block) × AreWords (clock .words) ⌝ }
 {
     let words = clock.words;
     put_words(block, CLOCK_AT, &words);
@@ -89,7 +90,7 @@ fn put_clock(block: &mut [u8], clock: clock::Clock)
 // Puts the tombstone and its number of dots in their place.
 fn put_tombstone(block: &mut [u8], tombstone: calls::Tombstone)
     requires { ⌜ length (now block) ≡ blockSize ⌝ }
-    ensures { λ _. ⌜ Fills tombstoneAt usedAt (tombstone .bytes ++ bigEndian 8 (tombstone .count)) (now (block .entry)) (now (block .exit)) ⌝ }
+    ensures { λ _. ⌜ Fills tombstoneAt usedAt (tombstone .bytes ++ bigEndian 8 (tombstone .count)) (before block) (after block) ⌝ }
 {
     let bytes = tombstone.bytes;
     put_with_number(block, TOMBSTONE_AT, &bytes, tombstone.count as u64);
@@ -98,7 +99,7 @@ fn put_tombstone(block: &mut [u8], tombstone: calls::Tombstone)
 // Writes a state into a block, which then is read as that state.
 pub fn pack(state: calls::State, block: &mut [u8])
     requires { ⌜ length (now block) ≡ blockSize ⌝ }
-    ensures { λ _. ⌜ (now (block .exit) ≡ stateBytes state) × (stateIn (now (block .exit)) ≡ state) ⌝ }
+    ensures { λ _. ⌜ (after block ≡ stateBytes state) × (stateIn (after block) ≡ state) ⌝ }
 {
     let actor = state.actor;
     let name = state.name;
@@ -116,7 +117,7 @@ pub fn pack(state: calls::State, block: &mut [u8])
 // The set name of a block, with its length.
 fn name_in(block: &[u8]) -> calls::SetName
     requires { ⌜ length (now block) ≡ blockSize ⌝ }
-    ensures { λ r. ⌜ r ≡ nameIn (now (block .entry)) ⌝ }
+    ensures { λ r. ⌜ r ≡ nameIn (before block) ⌝ }
 {
     let mut bytes = [0u8; dots::NAME_MOST];
     moves::put(&mut bytes, 0, &block[NAME_AT..NAME_LENGTH_AT]);
@@ -130,7 +131,7 @@ fn name_in(block: &[u8]) -> calls::SetName
 // The words of a block's clock.
 fn words_in(block: &[u8]) -> clock::Words
     requires { ⌜ length (now block) ≡ blockSize ⌝ }
-    ensures { λ r. ⌜ r ≡ wordsAt clockWords (now (block .entry)) clockAt ⌝ }
+    ensures { λ r. ⌜ r ≡ wordsAt clockWords (before block) clockAt ⌝ }
 {
     let mut words = [0u64; clock::CLOCK_WORDS];
     let mut i: usize = 0;
@@ -144,7 +145,7 @@ fn words_in(block: &[u8]) -> clock::Words
 // The tombstone of a block, with its number of dots.
 fn tombstone_in(block: &[u8]) -> calls::Tombstone
     requires { ⌜ length (now block) ≡ blockSize ⌝ }
-    ensures { λ r. ⌜ r ≡ tombstoneIn (now (block .entry)) ⌝ }
+    ensures { λ r. ⌜ r ≡ tombstoneIn (before block) ⌝ }
 {
     let mut bytes = [0u8; dots::TOMBSTONE_SIZE];
     moves::put(&mut bytes, 0, &block[TOMBSTONE_AT..COUNT_AT]);
@@ -158,7 +159,7 @@ fn tombstone_in(block: &[u8]) -> calls::Tombstone
 // Reads the state of a block.
 pub fn unpack(block: &[u8]) -> calls::State
     requires { ⌜ length (now block) ≡ blockSize ⌝ }
-    ensures { λ r. ⌜ r ≡ stateIn (now (block .entry)) ⌝ }
+    ensures { λ r. ⌜ r ≡ stateIn (before block) ⌝ }
 {
     let name = name_in(block);
     let words = words_in(block);

@@ -15,7 +15,7 @@ use Rattle.dots.proofs.Table.{none-holds}
 use Rattle.calls.specs.declared.State.{State}
 use Rattle.calls.specs.Damage.{damaged}
 use Rattle.calls.specs.Calls.{Result, refused, decided, ownAddResult, ownRemoveResult, takeInResult, listResult, lookupResult, compactResult, ownAddRefusals, ownAddDone, ownRemoveRefusals, ownRemoveDone, takeInRefusals, takeInDone, listRefusals, listDone, notLooked, lookupRefusals, lookupDone, compactRefusals, compactDone}
-use Rattle.calls.specs.Sequence.{Input, addInput, removeInput, messageInput, listInput, lookupInput, compactInput, Held, resultOf, answerOf, heldAfter, step}
+use Rattle.calls.specs.Sequence.{Reading, listReading, lookupReading, Input, addInput, removeInput, messageInput, readInput, listInput, lookupInput, compactInput, Held, resultOf, answerOf, heldAfter, step}
 
 -- a part of the result that the call's work leaves as a refusal does
 pub decided-either : {A : Type 0} (st : State) (store out : Bytes) (rs : Refusals) (done : Result) (part : Result → A)
@@ -62,7 +62,7 @@ pub record OnlyReads (h : Held) (i : Input) : Type 0 where
   pub store-is : resultOf h i .store ≡ h .used ++ past
   pub judged : answerOf h i ≡ 0 → damaged (h .state) (h .used ++ past) ≡ false
 
-pub list-reads : (h : Held) (past out : Bytes) → OnlyReads h (listInput past out)
+list-reads : (h : Held) (past out : Bytes) → OnlyReads h (listInput past out)
 unfolding resultOf listResult
 list-reads h past out =
     let store : Bytes = h .used ++ past in
@@ -75,7 +75,7 @@ list-reads h past out =
       judged = λ acc. none-holds rs (search needs) (decided-done (h .state) store out rs done refl acc .1) .0;
     }
 
-pub lookup-reads : (h : Held) (label past : Bytes) → OnlyReads h (lookupInput label past)
+lookup-reads : (h : Held) (label past : Bytes) → OnlyReads h (lookupInput label past)
 unfolding resultOf
 lookup-reads h label past =
     let store : Bytes = h .used ++ past in
@@ -85,6 +85,11 @@ lookup-reads h label past =
       store-is = refl;
       judged = λ acc. none-holds (lookupRefusals (h .state) store label) (search needs) (looked-done (h .state) store label acc .1) .0;
     }
+
+-- each of them
+pub only-reads : (h : Held) (reading : Reading) (past : Bytes) → OnlyReads h (readInput reading past)
+only-reads h (listReading out) past = list-reads h past out
+only-reads h (lookupReading label) past = lookup-reads h label past
 
 -- ---- what is held
 
@@ -117,8 +122,7 @@ module _ (h : Held) (sized : Sized h) where
   refused-keeps (messageInput message past) ref =
       let store : Bytes = h .used ++ past in
       kept-by past [] (takeInRefusals (h .state) store message) (takeInDone (h .state) store message) refl ref
-  refused-keeps (listInput past out) ref = reading-keeps (listInput past out) (list-reads h past out)
-  refused-keeps (lookupInput label past) ref = reading-keeps (lookupInput label past) (lookup-reads h label past)
+  refused-keeps (readInput reading past) ref = reading-keeps (readInput reading past) (only-reads h reading past)
   refused-keeps (compactInput past) ref =
       let store : Bytes = h .used ++ past in
       kept-by past [] (compactRefusals (h .state) store) (compactDone (h .state) store) refl ref

@@ -22,7 +22,7 @@ use Rattle.replica.proofs.Listings.{fewer}
 use Rattle.replica.proofs.RowClock.{controllers-follow, controllers-agree}
 use Rattle.calls.specs.State.{clockModel, nameOf, view}
 use Rattle.calls.specs.Calls.{Result, Looked, listRefusals, listDone, listResult, lookupResult}
-use Rattle.calls.specs.Sequence.{Input, addInput, removeInput, messageInput, listInput, lookupInput, compactInput, Held, started, resultOf, accepts, output, heldAfter, step, callOf, events, messageBytesOf, traffic}
+use Rattle.calls.specs.Sequence.{Input, addInput, removeInput, messageInput, readInput, listInput, lookupInput, compactInput, Held, started, resultOf, accepts, output, heldAfter, step, callOf, events, messageBytesOf, traffic}
 use Rattle.calls.specs.Demand3.{Accepted, Follows, Agree, Controlled, messagesOf, trafficOf, endOf, Demand3}
 use Rattle.calls.proofs.Reading.{used-after, viewOf}
 use Rattle.calls.proofs.Decided.{decided-done, looked-done, Sized}
@@ -114,8 +114,7 @@ nothing-noted a n h i false e = refl
 nothing-noted a n h (addInput label context past out) true e = absurd (cons≢nil e)
 nothing-noted a n h (removeInput context past out) true e = absurd (cons≢nil e)
 nothing-noted a n h (messageInput message past) true e = absurd (cons≢nil e)
-nothing-noted a n h (listInput past out) true e = refl
-nothing-noted a n h (lookupInput label past) true e = refl
+nothing-noted a n h (readInput reading past) true e = refl
 nothing-noted a n h (compactInput past) true e = refl
 
 no-traffic : (a : Actor) (n : History) (h : Held) (is : List Input) → traffic h is ≡ [] → historyFrom a n (events h is) .messages ≡ n .messages

@@ -15,9 +15,9 @@ use Rattle.messages.proofs.RoundTrip.{read-written}
 use Rattle.replica.specs.Machine.{Controller, nextDot, effect, exchanged, allowed, messagesOf, reads, compact, compacted}
 use Rattle.calls.specs.State.{clockModel, nameOf, view}
 use Rattle.calls.specs.Calls.{performed, addWritten, addDot, removeWritten}
-use Rattle.calls.specs.Sequence.{Input, addInput, removeInput, messageInput, listInput, lookupInput, compactInput, Held, resultOf, answerOf, heldAfter, step, output, callOf, messageBytesOf}
+use Rattle.calls.specs.Sequence.{Input, addInput, removeInput, messageInput, readInput, compactInput, Held, resultOf, answerOf, heldAfter, step, output, callOf, messageBytesOf}
 use Rattle.calls.proofs.Reading.{view-past, viewOf, performed-sized, performed-view}
-use Rattle.calls.proofs.Decided.{OnlyReads, list-reads, lookup-reads, Sized, reading-keeps, refused-keeps}
+use Rattle.calls.proofs.Decided.{OnlyReads, only-reads, Sized, reading-keeps, refused-keeps}
 use Rattle.calls.proofs.Validity.{compacted-rules}
 use Rattle.calls.proofs.Clauses.{view-rules}
 use Rattle.calls.proofs.Applied.{applied-view}
@@ -118,8 +118,7 @@ unfolding callOf messageBytesOf
 is-machine h sized (addInput label context past out) acc = add-is h sized past label context out acc
 is-machine h sized (removeInput context past out) acc = remove-is h sized past context out acc
 is-machine h sized (messageInput message past) acc = take-in-is h sized past message acc
-is-machine h sized (listInput past out) acc = reading-is h sized (listInput past out) (list-reads h past out) refl refl
-is-machine h sized (lookupInput label past) acc = reading-is h sized (lookupInput label past) (lookup-reads h label past) refl refl
+is-machine h sized (readInput reading past) acc = reading-is h sized (readInput reading past) (only-reads h reading past) refl refl
 is-machine h sized (compactInput past) acc = compact-is h sized past acc
 
 pub step-sized : (h : Held) → Sized h → (i : Input) → Sized (step h i)

@@ -21,10 +21,10 @@ use Rattle.calls.specs.declared.SetName.{SetName}
 use Rattle.calls.specs.State.{clockModel, nameOf, view}
 use Rattle.calls.specs.Effect.{stateOf}
 use Rattle.calls.specs.Calls.{setUp, freshState, Result, decided, ownAddRefusals, ownAddDone, ownAddResult, ownRemoveRefusals, ownRemoveDone, ownRemoveResult, takeInRefusals, takeInDone, takeInResult, compactRefusals, compactDone, compactResult}
-use Rattle.calls.specs.Sequence.{Input, addInput, removeInput, messageInput, listInput, lookupInput, compactInput, Held, started, resultOf, accepts, step, run, events, messageBytesOf, traffic}
+use Rattle.calls.specs.Sequence.{Input, addInput, removeInput, messageInput, readInput, compactInput, Held, started, resultOf, accepts, step, run, events, messageBytesOf, traffic}
 use Rattle.calls.specs.Demand3.{Controlled}
 use Rattle.calls.proofs.Reading.{viewOf}
-use Rattle.calls.proofs.Decided.{decided-either, list-reads, lookup-reads, Sized}
+use Rattle.calls.proofs.Decided.{decided-either, only-reads, Sized}
 use Rattle.calls.proofs.Instance.{is-machine, SizedHeld, stepped, controller}
 
 -- ---- what the machine's theorem calls a run is a run of the calls on bytes
@@ -69,8 +69,7 @@ step-name h (removeInput context past out) =
 step-name h (messageInput message past) =
     let store : Bytes = h .used ++ past in
     decided-name (h .state) store [] (takeInRefusals (h .state) store message) (takeInDone (h .state) store message) refl
-step-name h (listInput past out) = ap nameIn (list-reads h past out .state-is)
-step-name h (lookupInput label past) = ap nameIn (lookup-reads h label past .state-is)
+step-name h (readInput reading past) = ap nameIn (only-reads h reading past .state-is)
 step-name h (compactInput past) =
     let store : Bytes = h .used ++ past in
     decided-name (h .state) store [] (compactRefusals (h .state) store) (compactDone (h .state) store) refl

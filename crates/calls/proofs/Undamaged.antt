@@ -33,9 +33,9 @@ use Rattle.calls.specs.Damage.{tombstoneOk, stateNameOk, damaged}
 use Rattle.calls.specs.Effect.{keysPart, stateOf}
 use Rattle.calls.specs.Refusals.{badActor, badName, storeFull}
 use Rattle.calls.specs.Calls.{setUp, freshState, setUpRefusals, Result, performed, addWritten, removeWritten}
-use Rattle.calls.specs.Sequence.{Input, addInput, removeInput, messageInput, listInput, lookupInput, compactInput, Held, started, resultOf, answerOf, step, run}
+use Rattle.calls.specs.Sequence.{Input, addInput, removeInput, messageInput, readInput, compactInput, Held, started, resultOf, answerOf, step, run}
 use Rattle.calls.specs.Demand3.{Accepted, Controlled, endOf}
-use Rattle.calls.proofs.Decided.{OnlyReads, list-reads, lookup-reads, Sized, refused-keeps}
+use Rattle.calls.proofs.Decided.{OnlyReads, only-reads, Sized, refused-keeps}
 use Rattle.calls.proofs.Clauses.{Undamaged, undamaged, not-damaged, used-fits, entries-of}
 use Rattle.calls.proofs.Applied.{Applies, applied-actor}
 use Rattle.calls.proofs.Accepted.{add-accepted, remove-accepted, compact-accepted}
@@ -125,8 +125,7 @@ accepted-leaves h (removeInput context past out) words acc =
 accepted-leaves h (messageInput message past) words acc =
     let w = take-in-accepted (h .state) (h .used ++ past) message acc in
     subst Left (sym (w .result-is)) (applied-leaves (h .state) (h .used ++ past) (w .applies .whole) words [] [] _ (w .applies))
-accepted-leaves h (listInput past out) words acc = reading-leaves h (listInput past out) (list-reads h past out) words acc
-accepted-leaves h (lookupInput label past) words acc = reading-leaves h (lookupInput label past) (lookup-reads h label past) words acc
+accepted-leaves h (readInput reading past) words acc = reading-leaves h (readInput reading past) (only-reads h reading past) words acc
 accepted-leaves h (compactInput past) words acc =
     let w = compact-accepted (h .state) (h .used ++ past) acc in
     subst Left (sym (w .result-is)) (compacted-leaves (h .state) (h .used ++ past) (w .whole) words [] [])

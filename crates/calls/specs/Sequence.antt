@@ -17,14 +17,24 @@ use Rattle.replica.specs.Rule.{Event, noHistory, historyFrom}
 use Rattle.calls.specs.declared.State.{State}
 use Rattle.calls.specs.Calls.{setUp, Result, refused, ownAddResult, ownRemoveResult, takeInResult, listResult, lookupResult, compactResult}
 
+-- a call that only reads, with its arguments and the output that is lent to it
+pub data Reading : Type 0 where
+  listReading : (out : Bytes) → Reading
+  lookupReading : (label : Bytes) → Reading
+
 -- a call with its arguments and lent buffers: `out`, and the store's buffer `past` the used bytes, which "may differ from call to call, in length and in content"
 pub data Input : Type 0 where
   addInput : (label context past out : Bytes) → Input
   removeInput : (context past out : Bytes) → Input
   messageInput : (message past : Bytes) → Input
-  listInput : (past out : Bytes) → Input
-  lookupInput : (label past : Bytes) → Input
+  readInput : (reading : Reading) (past : Bytes) → Input
   compactInput : (past : Bytes) → Input
+
+abbrev pub listInput : Bytes → Bytes → Input
+listInput past out = readInput (listReading out) past
+
+abbrev pub lookupInput : Bytes → Bytes → Input
+lookupInput label past = readInput (lookupReading label) past
 
 -- what passes from call to call
 pub record Held : Type 0 where
@@ -34,12 +44,15 @@ pub record Held : Type 0 where
 abbrev pub started : ℕ → Name → Held
 started actor name = record { state = setUp actor name .state; used = [] }
 
+abbrev pub readingResult : State → Bytes → Reading → Result
+readingResult st store (listReading out) = listResult st store out
+readingResult st store (lookupReading label) = refused st store [] (lookupResult st store label .answer)
+
 unfoldable pub resultOf : Held → Input → Result
 resultOf h (addInput label context past out) = ownAddResult (h .state) (h .used ++ past) label context out
 resultOf h (removeInput context past out) = ownRemoveResult (h .state) (h .used ++ past) context out
 resultOf h (messageInput message past) = takeInResult (h .state) (h .used ++ past) message
-resultOf h (listInput past out) = listResult (h .state) (h .used ++ past) out
-resultOf h (lookupInput label past) = refused (h .state) (h .used ++ past) [] (lookupResult (h .state) (h .used ++ past) label .answer)
+resultOf h (readInput reading past) = readingResult (h .state) (h .used ++ past) reading
 resultOf h (compactInput past) = compactResult (h .state) (h .used ++ past)
 
 abbrev pub answerOf : Held → Input → ℕ
@@ -64,8 +77,7 @@ unfoldable pub callOf : Input → Call
 callOf (addInput label context past out) = ownAdd label (dotsOf context)
 callOf (removeInput context past out) = ownRemove (dotsOf context)
 callOf (messageInput message past) = takeIn (messageOf message)
-callOf (listInput past out) = reads
-callOf (lookupInput label past) = reads
+callOf (readInput reading past) = reads
 callOf (compactInput past) = compact
 
 -- "The rule reads the calls' arguments and which calls were accepted, nothing from clock, tombstone or store."
@@ -86,8 +98,7 @@ unfoldable pub messageBytesOf : Held → Input → List Bytes
 messageBytesOf h (addInput label context past out) = output (resultOf h (addInput label context past out)) ∷ []
 messageBytesOf h (removeInput context past out) = output (resultOf h (removeInput context past out)) ∷ []
 messageBytesOf h (messageInput message past) = message ∷ []
-messageBytesOf h (listInput past out) = []
-messageBytesOf h (lookupInput label past) = []
+messageBytesOf h (readInput reading past) = []
 messageBytesOf h (compactInput past) = []
 
 -- each message that was "taken in or written in an accepted call"

@@ -1,5 +1,6 @@
 // The C interface: the calls of the controller on a state that crosses as a block of bytes.
 ghost use mathlib.Core.Path.{_≡_};
+ghost use Rattle.wire.specs.Loans.{before, after};
 ghost use Rattle.capi.specs.Left.{takeInLeft, compactLeft};
 ghost use Rattle.capi.specs.Promise.{interfaceVersion, SetsUp, OwnAdds, OwnRemoves, Changes, ListsLabels, LooksUp, WritesKeyOf, ReadsKeyIn, ReadsMessageIn};
 
@@ -19,7 +20,7 @@ pub extern "C" fn ptl_version() -> u32
 // Sets a controller up. A refused set-up leaves a block of zeros.
 #[no_mangle]
 pub extern "C" fn ptl_set_up(actor: u8, name: &[u8], state: &mut [u8]) -> u8
-    ensures { λ r. ⌜ SetsUp actor (now (name .entry)) (now (state .entry)) (now (state .exit)) r ⌝ }
+    ensures { λ r. ⌜ SetsUp actor (before name) (before state) (after state) r ⌝ }
 {
     if state.len() != block::STATE_SIZE {
         return 1;
@@ -81,7 +82,7 @@ pub extern "C" fn ptl_own_remove(
 // Takes a message in.
 #[no_mangle]
 pub extern "C" fn ptl_take_in(state: &mut [u8], store: &mut [u8], message: &[u8]) -> u8
-    ensures { λ r. ⌜ Changes (takeInLeft (now (state .entry)) (now (store .entry)) (now (message .entry))) (now (state .exit)) (now (store .exit)) r ⌝ }
+    ensures { λ r. ⌜ Changes (takeInLeft (before state) (before store) (before message)) (after state) (after store) r ⌝ }
 {
     if state.len() != block::STATE_SIZE {
         return 1;
@@ -125,7 +126,7 @@ pub extern "C" fn ptl_lookup<'a>(
     found: &mut &'a [u8],
     listed: &mut bool,
 ) -> u8
-    ensures { λ r. ⌜ LooksUp (now (state .entry)) (store .entry) (now (label .entry)) (now (found .exit)) (now (listed .exit)) r ⌝ }
+    ensures { λ r. ⌜ LooksUp (before state) (store .entry) (before label) (after found) (after listed) r ⌝ }
 {
     if state.len() != block::STATE_SIZE {
         *found = &store[0..0];
@@ -140,7 +141,7 @@ pub extern "C" fn ptl_lookup<'a>(
 // Drops the keys whose dots are in the tombstone. With no dots there the block stays as it is.
 #[no_mangle]
 pub extern "C" fn ptl_compact(state: &mut [u8], store: &mut [u8]) -> u8
-    ensures { λ r. ⌜ Changes (compactLeft (now (state .entry)) (now (store .entry))) (now (state .exit)) (now (store .exit)) r ⌝ }
+    ensures { λ r. ⌜ Changes (compactLeft (before state) (before store)) (after state) (after store) r ⌝ }
 {
     if state.len() != block::STATE_SIZE {
         return 1;

@@ -3,6 +3,7 @@ ghost use mathlib.Core.Path.{_≡_};
 ghost use mathlib.Core.Bool.{true};
 ghost use mathlib.Core.List.{_∷_};
 ghost use Prim.Native.Nat.{_+_, _≤_};
+ghost use Rattle.wire.specs.Loans.{before, after};
 ghost use Rattle.dots.specs.Dots.{maxCounter};
 ghost use Rattle.dots.specs.Wire.{dotsOf};
 ghost use Rattle.clock.specs.Row.{windowWidth, seen as isSeen, wellFormed, inReach, trailingOnes, settled, join as joined};
@@ -121,7 +122,7 @@ pub struct Reach {
 
 // The row of an actor; of no actor it is zero.
 pub fn row_of(words: &Words, actor: dots::Actor) -> Row
-    ensures { λ r. ⌜ rowOf r ≡ rowAt (now (words .entry)) (actor .number) ⌝ }
+    ensures { λ r. ⌜ rowOf r ≡ rowAt (before words) (actor .number) ⌝ }
 {
     let a = actor.number;
     if a < 1 {
@@ -139,7 +140,7 @@ pub fn row_of(words: &Words, actor: dots::Actor) -> Row
 
 // Puts the row of an actor in its place.
 fn set_row(words: &mut Words, actor: dots::Actor, row: Row)
-    ensures { λ _. ⌜ now (words .exit) ≡ withRow (now (words .entry)) (actor .number) (rowOf row) ⌝ }
+    ensures { λ _. ⌜ after words ≡ withRow (before words) (actor .number) (rowOf row) ⌝ }
 {
     let a = actor.number;
     if a < 1 {
@@ -155,14 +156,14 @@ fn set_row(words: &mut Words, actor: dots::Actor, row: Row)
 
 // Whether the clock sees a dot.
 pub fn sees(words: &Words, dot: dots::Dot) -> bool
-    ensures { λ r. ⌜ r ≡ isSeenBy (now (words .entry)) dot ⌝ }
+    ensures { λ r. ⌜ r ≡ isSeenBy (before words) dot ⌝ }
 {
     row_sees(row_of(words, dot.actor), dot.counter.number)
 }
 
 // Whether every row keeps its rules.
 fn rows_ok(words: &Words) -> bool
-    ensures { λ r. ⌜ r ≡ rowsOk windowWidth (now (words .entry)) ⌝ }
+    ensures { λ r. ⌜ r ≡ rowsOk windowWidth (before words) ⌝ }
 {
     let mut ok = true;
     let mut a: u8 = 0;
@@ -176,7 +177,7 @@ fn rows_ok(words: &Words) -> bool
 
 // Whether the clock of a controller keeps its rules: the own window is 0.
 pub fn clock_ok(own: dots::Actor, words: &Words) -> bool
-    ensures { λ r. ⌜ r ≡ clockOk windowWidth (own .number) (now (words .entry)) ⌝ }
+    ensures { λ r. ⌜ r ≡ clockOk windowWidth (own .number) (before words) ⌝ }
 {
     let rows = rows_ok(words);
     let row = row_of(words, own);
@@ -186,7 +187,7 @@ pub fn clock_ok(own: dots::Actor, words: &Words) -> bool
 // The clock that also sees the dot.
 fn join_dot(words: &mut Words, dot: dots::Dot)
     requires { ⌜ CanJoinDot windowWidth (now words) dot ⌝ }
-    ensures { λ _. ⌜ now (words .exit) ≡ joinDot windowWidth (now (words .entry)) dot ⌝ }
+    ensures { λ _. ⌜ after words ≡ joinDot windowWidth (before words) dot ⌝ }
 {
     let row = row_of(words, dot.actor);
     set_row(words, dot.actor, row_join(row, dot.counter.number));
@@ -194,7 +195,7 @@ fn join_dot(words: &mut Words, dot: dots::Dot)
 
 // The row for the next dot of an actor.
 fn row_for(words: &Words, x: Reach, actor: dots::Actor) -> Row
-    ensures { λ r. ⌜ rowOf r ≡ rowFor (now (words .entry)) (reachOf x) (actor .number) ⌝ }
+    ensures { λ r. ⌜ rowOf r ≡ rowFor (before words) (reachOf x) (actor .number) ⌝ }
 {
     if x.actor.number == actor.number {
         return x.row;
@@ -205,7 +206,7 @@ fn row_for(words: &Words, x: Reach, actor: dots::Actor) -> Row
 // Whether one dot more is in reach.
 fn reach_step(words: &Words, x: Reach, dot: dots::Dot) -> Reach
     requires { ⌜ (rowsOk windowWidth (now words) ≡ true) × (wellFormed windowWidth (rowOf (x .row)) ≡ true) ⌝ }
-    ensures { λ r. ⌜ IsReach windowWidth (reachStep windowWidth (now (words .entry)) (reachOf x) dot) r ⌝ }
+    ensures { λ r. ⌜ IsReach windowWidth (reachStep windowWidth (before words) (reachOf x) dot) r ⌝ }
 {
     let row = row_for(words, x, dot.actor);
     if !x.ok {
@@ -228,7 +229,7 @@ fn reach_step(words: &Words, x: Reach, dot: dots::Dot) -> Reach
 // Whether all dots of the bytes are in reach, one after the other.
 fn reach_dots(words: &Words, from: Reach, offered: &[u8]) -> Reach
     requires { ⌜ (rowsOk windowWidth (now words) ≡ true) × (wellFormed windowWidth (rowOf (from .row)) ≡ true) ⌝ }
-    ensures { λ r. ⌜ IsReach windowWidth (reachEach windowWidth (now (words .entry)) (reachOf from) (dotsOf (now (offered .entry)))) r ⌝ }
+    ensures { λ r. ⌜ IsReach windowWidth (reachEach windowWidth (before words) (reachOf from) (dotsOf (before offered))) r ⌝ }
 {
     let mut x = from;
     let n = offered.len() / dots::DOT_SIZE;
@@ -255,7 +256,7 @@ fn reach_start() -> Reach
 // Joins all dots of the bytes, one after the other.
 fn join_dots(words: &mut Words, offered: &[u8])
     requires { ⌜ Ready windowWidth (now words) (dotsOf (now offered)) ⌝ }
-    ensures { λ _. ⌜ now (words .exit) ≡ joinEach windowWidth (now (words .entry)) (dotsOf (now (offered .entry))) ⌝ }
+    ensures { λ _. ⌜ after words ≡ joinEach windowWidth (before words) (dotsOf (before offered)) ⌝ }
 {
     let n = offered.len() / dots::DOT_SIZE;
     let mut i: usize = 0;
@@ -271,27 +272,27 @@ fn join_dots(words: &mut Words, offered: &[u8])
 // Whether refusal 10 does not hold for a context. The clock is only read.
 pub fn near_context(words: &Words, context: &[u8]) -> bool
     requires { ⌜ Offer windowWidth (now words) (dotsOf (now context)) ⌝ }
-    ensures { λ r. ⌜ r ≡ near windowWidth (now (words .entry)) (dotsOf (now (context .entry))) ⌝ }
+    ensures { λ r. ⌜ r ≡ near windowWidth (before words) (dotsOf (before context)) ⌝ }
 {
     let end = reach_dots(words, reach_start(), context);
     end.ok
 }
 
-// The same for dots before one, the one, and dots after it.
-fn near_around(words: &Words, before: &[u8], dot: dots::Dot, after: &[u8]) -> bool
-    requires { ⌜ Offer windowWidth (now words) (dotsAround (now before) dot (now after)) ⌝ }
-    ensures { λ r. ⌜ r ≡ near windowWidth (now (words .entry)) (dotsAround (now (before .entry)) dot (now (after .entry))) ⌝ }
+// The same for dots below one, the one, and dots above it.
+fn near_around(words: &Words, lower: &[u8], dot: dots::Dot, higher: &[u8]) -> bool
+    requires { ⌜ Offer windowWidth (now words) (dotsAround (now lower) dot (now higher)) ⌝ }
+    ensures { λ r. ⌜ r ≡ near windowWidth (before words) (dotsAround (before lower) dot (before higher)) ⌝ }
 {
-    let below = reach_dots(words, reach_start(), before);
+    let below = reach_dots(words, reach_start(), lower);
     let there = reach_step(words, below, dot);
-    let end = reach_dots(words, there, after);
+    let end = reach_dots(words, there, higher);
     end.ok
 }
 
 // Whether refusal 10 does not hold for a context and one more dot.
 pub fn near_with_dot(words: &Words, context: &[u8], dot: dots::Dot) -> bool
     requires { ⌜ OfferWith windowWidth (now words) (now context) dot ⌝ }
-    ensures { λ r. ⌜ r ≡ near windowWidth (now (words .entry)) (dot ∷ dotsOf (now (context .entry))) ⌝ }
+    ensures { λ r. ⌜ r ≡ near windowWidth (before words) (dot ∷ dotsOf (before context)) ⌝ }
 {
     let at = contexts::place_of(context, dot) * dots::DOT_SIZE;
     near_around(words, &context[..at], dot, &context[at..])
@@ -300,25 +301,25 @@ pub fn near_with_dot(words: &Words, context: &[u8], dot: dots::Dot) -> bool
 // Joins a context where refusal 10 does not hold.
 pub fn join_context(words: &mut Words, context: &[u8])
     requires { ⌜ CanJoinContext windowWidth (now words) (now context) ⌝ }
-    ensures { λ _. ⌜ now (words .exit) ≡ joinAll windowWidth (now (words .entry)) (dotsOf (now (context .entry))) ⌝ }
+    ensures { λ _. ⌜ after words ≡ joinAll windowWidth (before words) (dotsOf (before context)) ⌝ }
 {
     join_dots(words, context);
 }
 
-// Joins dots before one, the one, and dots after it.
-fn join_around(words: &mut Words, before: &[u8], dot: dots::Dot, after: &[u8])
-    requires { ⌜ Ready windowWidth (now words) (dotsAround (now before) dot (now after)) ⌝ }
-    ensures { λ _. ⌜ now (words .exit) ≡ joinEach windowWidth (now (words .entry)) (dotsAround (now (before .entry)) dot (now (after .entry))) ⌝ }
+// Joins dots below one, the one, and dots above it.
+fn join_around(words: &mut Words, lower: &[u8], dot: dots::Dot, higher: &[u8])
+    requires { ⌜ Ready windowWidth (now words) (dotsAround (now lower) dot (now higher)) ⌝ }
+    ensures { λ _. ⌜ after words ≡ joinEach windowWidth (before words) (dotsAround (before lower) dot (before higher)) ⌝ }
 {
-    join_dots(words, before);
+    join_dots(words, lower);
     join_dot(words, dot);
-    join_dots(words, after);
+    join_dots(words, higher);
 }
 
 // Joins a context and one more dot, in ascending order.
 pub fn join_with_dot(words: &mut Words, context: &[u8], dot: dots::Dot)
     requires { ⌜ CanJoinWithDot windowWidth (now words) (now context) dot ⌝ }
-    ensures { λ _. ⌜ now (words .exit) ≡ joinAll windowWidth (now (words .entry)) (dot ∷ dotsOf (now (context .entry))) ⌝ }
+    ensures { λ _. ⌜ after words ≡ joinAll windowWidth (before words) (dot ∷ dotsOf (before context)) ⌝ }
 {
     let at = contexts::place_of(context, dot) * dots::DOT_SIZE;
     join_around(words, &context[..at], dot, &context[at..]);

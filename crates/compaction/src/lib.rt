@@ -3,6 +3,7 @@ ghost use mathlib.Core.Path.{_≡_};
 ghost use mathlib.Core.Bool.{true};
 ghost use Prim.Native.Nat.{_≤_};
 ghost use lib.ListN.{length};
+ghost use Rattle.wire.specs.Loans.{before, after};
 ghost use Rattle.dots.specs.Dots.{tombstoneMost};
 ghost use Rattle.dots.specs.Wire.{dotsOf, tombstoneSize};
 ghost use Rattle.store.specs.Valid.{keysFit};
@@ -33,7 +34,7 @@ fn mark_dot(
     dot: dots::Dot,
 ) -> bool
     requires { ⌜ DotsWithMarks (now ascending) (now slots) (now marks) ⌝ }
-    ensures { λ r. ⌜ MarksDot dot (dotsOf (now (ascending .entry))) r (now (marks .entry)) (now (marks .exit)) ⌝ }
+    ensures { λ r. ⌜ MarksDot dot (dotsOf (before ascending)) r (before marks) (after marks) ⌝ }
 {
     if !slots::holds_slotted(ascending, slots, dot) {
         return false;
@@ -46,7 +47,7 @@ fn mark_dot(
 // Keeps a piece where it goes, or leaves it out. Returns where the next one goes.
 fn keep_piece(s: &mut [u8], kept: bool, piece: Piece) -> usize
     requires { ⌜ PieceFits (length (now s)) piece ⌝ }
-    ensures { λ r. ⌜ KeepsPiece kept (piece .from) (piece .end) (piece .to) r (now (s .entry)) (now (s .exit)) ⌝ }
+    ensures { λ r. ⌜ KeepsPiece kept (piece .from) (piece .end) (piece .to) r (before s) (after s) ⌝ }
 {
     let from = piece.from;
     let end = piece.end;
@@ -70,7 +71,7 @@ fn drop_key(
     key: Piece,
 ) -> usize
     requires { ⌜ KeyFits (length (now keys)) key × DotsWithMarks (now ascending) (now slots) (now marks) ⌝ }
-    ensures { λ r. ⌜ DropsDeadKey (now (ascending .entry)) key r (now (keys .entry)) (now (keys .exit)) (now (marks .entry)) (now (marks .exit)) ⌝ }
+    ensures { λ r. ⌜ DropsDeadKey (before ascending) key r (before keys) (after keys) (before marks) (after marks) ⌝ }
 {
     let from = key.from;
     let end = key.end;
@@ -88,7 +89,7 @@ fn drop_keys(
     marks: &mut [u8; dots::TOMBSTONE_MOST],
 ) -> usize
     requires { ⌜ (n ≤ nameMost) × (keysFit n (now keys) ≡ true) × DotsWithMarks (now ascending) (now slots) (now marks) ⌝ }
-    ensures { λ r. ⌜ DropsDeadKeys n (now (ascending .entry)) r (now (keys .entry)) (now (keys .exit)) (now (marks .entry)) (now (marks .exit)) ⌝ }
+    ensures { λ r. ⌜ DropsDeadKeys n (before ascending) r (before keys) (after keys) (before marks) (after marks) ⌝ }
 {
     let mut from: usize = 0;
     let mut to: usize = 0;
@@ -104,7 +105,7 @@ fn drop_keys(
 // Moves the unmarked dots together. Returns how many there are; the freed bytes become 0.
 fn drop_dots(bytes: &mut [u8], marks: &[u8; dots::TOMBSTONE_MOST]) -> usize
     requires { ⌜ (length (now bytes) ≤ tombstoneSize) × (length (now marks) ≡ tombstoneMost) ⌝ }
-    ensures { λ r. ⌜ DropsDots (now (marks .entry)) r (now (bytes .entry)) (now (bytes .exit)) ⌝ }
+    ensures { λ r. ⌜ DropsDots (before marks) r (before bytes) (after bytes) ⌝ }
 {
     let n = bytes.len() / dots::DOT_SIZE;
     let mut to: usize = 0;
@@ -128,7 +129,7 @@ pub fn compact(
     count: usize,
 ) -> Compacted
     requires { ⌜ CanCompact n used count (now store) (now tombstone) ⌝ }
-    ensures { λ r. ⌜ Compacts n used count (now (store .entry)) (now (tombstone .entry)) (now (store .exit)) (now (tombstone .exit)) r ⌝ }
+    ensures { λ r. ⌜ Compacts n used count (before store) (before tombstone) (after store) (after tombstone) r ⌝ }
 {
     let size = count * dots::DOT_SIZE;
     let mut slots = [0u8; slots::SLOTS];

@@ -3,6 +3,7 @@ ghost use mathlib.Core.Path.{_≡_};
 ghost use mathlib.Core.Bool.{true};
 ghost use Prim.Native.Nat.{_*_, _≤_};
 ghost use lib.ListN.{length};
+ghost use Rattle.wire.specs.Loans.{before, after};
 ghost use Rattle.wire.specs.Lists.{member};
 ghost use Rattle.contexts.specs.Inserting.{MayInsert, Inserted};
 ghost use Rattle.dots.specs.Dots.{compareDots, ascendingDots, contextOk};
@@ -12,7 +13,7 @@ ghost use Rattle.dots.specs.Wire.{dotsOf, placeOf, dotSize};
 
 // Whether each dot keeps its rule and is above the one before it.
 pub fn ascending_dots(dots: &[u8]) -> bool
-    ensures { λ r. ⌜ r ≡ ascendingDots (dotsOf (now (dots .entry))) ⌝ }
+    ensures { λ r. ⌜ r ≡ ascendingDots (dotsOf (before dots)) ⌝ }
 {
     let n = dots.len() / dots::DOT_SIZE;
     let mut ok = true;
@@ -32,7 +33,7 @@ pub fn ascending_dots(dots: &[u8]) -> bool
 
 // Whether the dots are a context: at most 16, ascending.
 pub fn context_ok(dots: &[u8]) -> bool
-    ensures { λ r. ⌜ r ≡ contextOk (dotsOf (now (dots .entry))) ⌝ }
+    ensures { λ r. ⌜ r ≡ contextOk (dotsOf (before dots)) ⌝ }
 {
     let ascend = ascending_dots(dots);
     (dots.len() / dots::DOT_SIZE <= dots::CONTEXT_MOST) & ascend
@@ -40,7 +41,7 @@ pub fn context_ok(dots: &[u8]) -> bool
 
 // Whether the dot is one of the dots.
 pub fn has_dot(dots: &[u8], dot: dots::Dot) -> bool
-    ensures { λ r. ⌜ r ≡ member compareDots dot (dotsOf (now (dots .entry))) ⌝ }
+    ensures { λ r. ⌜ r ≡ member compareDots dot (dotsOf (before dots)) ⌝ }
 {
     let n = dots.len() / dots::DOT_SIZE;
     let mut found = false;
@@ -55,7 +56,7 @@ pub fn has_dot(dots: &[u8], dot: dots::Dot) -> bool
 
 // How many dots at the front come before the dot.
 pub fn place_of(dots: &[u8], dot: dots::Dot) -> usize
-    ensures { λ r. ⌜ (r ≡ placeOf dot (dotsOf (now (dots .entry)))) × (r * dotSize ≤ length (now (dots .entry))) ⌝ }
+    ensures { λ r. ⌜ (r ≡ placeOf dot (dotsOf (before dots))) × (r * dotSize ≤ length (before dots)) ⌝ }
 {
     let n = dots.len() / dots::DOT_SIZE;
     let mut i: usize = 0;
@@ -74,7 +75,7 @@ pub fn place_of(dots: &[u8], dot: dots::Dot) -> usize
 // How many of the ascending dots come before the dot, found by halving.
 pub fn search_dot(dots: &[u8], dot: dots::Dot) -> usize
     requires { ⌜ ascendingDots (dotsOf (now dots)) ≡ true ⌝ }
-    ensures { λ r. ⌜ (r ≡ placeOf dot (dotsOf (now (dots .entry)))) × (r * dotSize ≤ length (now (dots .entry))) ⌝ }
+    ensures { λ r. ⌜ (r ≡ placeOf dot (dotsOf (before dots))) × (r * dotSize ≤ length (before dots)) ⌝ }
 {
     let mut low: usize = 0;
     let mut high = dots.len() / dots::DOT_SIZE;
@@ -93,7 +94,7 @@ pub fn search_dot(dots: &[u8], dot: dots::Dot) -> usize
 // Whether the dot is one of the ascending dots.
 pub fn holds_dot(dots: &[u8], dot: dots::Dot) -> bool
     requires { ⌜ ascendingDots (dotsOf (now dots)) ≡ true ⌝ }
-    ensures { λ r. ⌜ r ≡ member compareDots dot (dotsOf (now (dots .entry))) ⌝ }
+    ensures { λ r. ⌜ r ≡ member compareDots dot (dotsOf (before dots)) ⌝ }
 {
     if dots.len() < dots::DOT_SIZE {
         return false;
@@ -108,7 +109,7 @@ pub fn holds_dot(dots: &[u8], dot: dots::Dot) -> bool
 // Puts the dot in its place among the first `count`, which ascend, once. Returns how many there are then.
 fn insert_among(bytes: &mut [u8], count: usize, dot: dots::Dot) -> usize
     requires { ⌜ MayInsert (now bytes) count dot ⌝ }
-    ensures { λ r. ⌜ Inserted (now (bytes .entry)) (now (bytes .exit)) count dot r ⌝ }
+    ensures { λ r. ⌜ Inserted (before bytes) (after bytes) count dot r ⌝ }
 {
     let used = count * dots::DOT_SIZE;
     if holds_dot(&bytes[..used], dot) {
@@ -123,7 +124,7 @@ fn insert_among(bytes: &mut [u8], count: usize, dot: dots::Dot) -> usize
 // The same in the bytes of a tombstone.
 pub fn insert_dot(bytes: &mut [u8; dots::TOMBSTONE_SIZE], count: usize, dot: dots::Dot) -> usize
     requires { ⌜ MayInsert (now bytes) count dot ⌝ }
-    ensures { λ r. ⌜ Inserted (now (bytes .entry)) (now (bytes .exit)) count dot r ⌝ }
+    ensures { λ r. ⌜ Inserted (before bytes) (after bytes) count dot r ⌝ }
 {
     insert_among(bytes, count, dot)
 }

@@ -4,6 +4,7 @@ ghost use mathlib.Core.Bool.{false};
 ghost use mathlib.Core.List.{[]};
 ghost use Prim.Native.Nat.{_≤_};
 ghost use lib.ListN.{length};
+ghost use Rattle.wire.specs.Loans.{before, after};
 ghost use Rattle.dots.specs.Names.{nameMost};
 ghost use Rattle.calls.specs.Damage.{damaged as isDamaged};
 ghost use Rattle.calls.specs.State.{Sized};
@@ -16,7 +17,7 @@ ghost use Rattle.calls.specs.Promise.{Leaves};
 // A set name at the front of 16 bytes, the others 0.
 fn name_bytes(name: &[u8]) -> [u8; dots::NAME_MOST]
     requires { ⌜ length (now name) ≤ nameMost ⌝ }
-    ensures { λ r. ⌜ r ≡ padded nameMost (now (name .entry)) ⌝ }
+    ensures { λ r. ⌜ r ≡ padded nameMost (before name) ⌝ }
 {
     let mut bytes = [0u8; dots::NAME_MOST];
     moves::put(&mut bytes, 0, name);
@@ -26,7 +27,7 @@ fn name_bytes(name: &[u8]) -> [u8; dots::NAME_MOST]
 // The state of a controller that has seen nothing.
 fn fresh_state(actor: u8, name: &[u8]) -> calls::State
     requires { ⌜ length (now name) ≤ nameMost ⌝ }
-    ensures { λ r. ⌜ r ≡ freshState actor (now (name .entry)) ⌝ }
+    ensures { λ r. ⌜ r ≡ freshState actor (before name) ⌝ }
 {
     let bytes = name_bytes(name);
     calls::State {
@@ -48,7 +49,7 @@ fn fresh_state(actor: u8, name: &[u8]) -> calls::State
 
 // Sets a controller up.
 pub fn set_up(actor: u8, name: &[u8]) -> calls::SetUp
-    ensures { λ r. ⌜ r ≡ setUp actor (now (name .entry)) ⌝ }
+    ensures { λ r. ⌜ r ≡ setUp actor (before name) ⌝ }
 {
     let named = dots::name_ok(name);
     if !((1 <= actor) & (actor <= dots::ACTOR_MOST)) | !named {
@@ -68,7 +69,7 @@ pub fn set_up(actor: u8, name: &[u8]) -> calls::SetUp
 // Drops the dead keys of an undamaged state's store, and their dots from its tombstone.
 fn compact_done(state: calls::State, store: &mut [u8]) -> calls::Outcome
     requires { ⌜ (isDamaged state (now store) ≡ false) × Sized state ⌝ }
-    ensures { λ r. ⌜ Leaves (compactDone state (now (store .entry))) (now (store .exit)) [] r ⌝ }
+    ensures { λ r. ⌜ Leaves (compactDone state (before store)) (after store) [] r ⌝ }
 {
     let mut bytes = state.tombstone.bytes;
     let left = compaction::compact(
@@ -99,7 +100,7 @@ fn compact_done(state: calls::State, store: &mut [u8]) -> calls::Outcome
 
 // Drops the keys whose dots are in the tombstone. With no dots there all stays.
 pub fn compact(state: calls::State, store: &mut [u8]) -> calls::Outcome
-    ensures { λ r. ⌜ Leaves (compactResult state (now (store .entry))) (now (store .exit)) [] r ⌝ }
+    ensures { λ r. ⌜ Leaves (compactResult state (before store)) (after store) [] r ⌝ }
 {
     let head = judging::head_of(state);
     let damage = judging::damaged(head, &state.clock.words, &state.tombstone.bytes, store);

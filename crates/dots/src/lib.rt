@@ -4,6 +4,7 @@ ghost use mathlib.Core.Bool.{cond};
 ghost use Prim.Native.Nat.{_+_, _≤_};
 ghost use lib.Dec.{isEq};
 ghost use lib.ListN.{length};
+ghost use Rattle.wire.specs.Loans.{before};
 ghost use Rattle.wire.specs.Lists.{isLt};
 ghost use Rattle.dots.specs.Answer.{numberOf};
 ghost use Rattle.dots.specs.Names.{textOk, nameOk, labelOk};
@@ -80,20 +81,20 @@ pub fn first(holds: bool, answer: Answer, rest: Answer) -> Answer
 
 // Whether no byte is 0, and there are 1 to `most`.
 fn text_ok(most: usize, text: &[u8]) -> bool
-    ensures { λ r. ⌜ r ≡ textOk most (now (text .entry)) ⌝ }
+    ensures { λ r. ⌜ r ≡ textOk most (before text) ⌝ }
 {
     let nonzero = search::zero_at(text) == text.len();
     (1 <= text.len()) & (text.len() <= most) & nonzero
 }
 
 pub fn name_ok(name: &[u8]) -> bool
-    ensures { λ r. ⌜ r ≡ nameOk (now (name .entry)) ⌝ }
+    ensures { λ r. ⌜ r ≡ nameOk (before name) ⌝ }
 {
     text_ok(NAME_MOST, name)
 }
 
 pub fn label_ok(label: &[u8]) -> bool
-    ensures { λ r. ⌜ r ≡ labelOk (now (label .entry)) ⌝ }
+    ensures { λ r. ⌜ r ≡ labelOk (before label) ⌝ }
 {
     text_ok(LABEL_MOST, label)
 }
@@ -143,7 +144,7 @@ pub fn dot_ok(dot: Dot) -> bool
 // The dot in the 9 bytes from a place on.
 pub fn dot_at(s: &[u8], at: usize) -> Dot
     requires { ⌜ at + dotSize ≤ length (now s) ⌝ }
-    ensures { λ r. ⌜ r ≡ dotAt (now (s .entry)) at ⌝ }
+    ensures { λ r. ⌜ r ≡ dotAt (before s) at ⌝ }
 {
     let actor = s[at];
     let counter = wire::number_at(s, at + 1);

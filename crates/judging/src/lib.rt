@@ -4,6 +4,7 @@ ghost use mathlib.Core.Bool.{true};
 ghost use Prim.Native.Nat.{_≤_};
 ghost use lib.Dec.{eqb};
 ghost use lib.ListN.{length, take};
+ghost use Rattle.wire.specs.Loans.{before};
 ghost use Rattle.wire.specs.Lists.{all};
 ghost use Rattle.dots.specs.Names.{nameMost, nameOk};
 ghost use Rattle.dots.specs.Wire.{dotsOf, tombstoneSize};
@@ -14,7 +15,7 @@ ghost use Rattle.judging.specs.Judging.{isSetName, isTombstone, stateOk,
 
 // Whether every byte is 0.
 fn all_zero(s: &[u8]) -> bool
-    ensures { λ r. ⌜ r ≡ all (λ b. eqb b 0) (now (s .entry)) ⌝ }
+    ensures { λ r. ⌜ r ≡ all (λ b. eqb b 0) (before s) ⌝ }
 {
     let mut ok = true;
     let mut i = 0;
@@ -27,7 +28,7 @@ fn all_zero(s: &[u8]) -> bool
 
 // Whether the clock sees every dot.
 fn all_seen(words: &clock::Words, seen: &[u8]) -> bool
-    ensures { λ r. ⌜ r ≡ all (sees (now (words .entry))) (dotsOf (now (seen .entry))) ⌝ }
+    ensures { λ r. ⌜ r ≡ all (sees (before words)) (dotsOf (before seen)) ⌝ }
 {
     let n = seen.len() / dots::DOT_SIZE;
     let mut ok = true;
@@ -43,7 +44,7 @@ fn all_seen(words: &clock::Words, seen: &[u8]) -> bool
 // Whether the first len bytes are a set name, and the others 0.
 fn set_name_ok(bytes: &[u8], len: usize) -> bool
     requires { ⌜ length (now bytes) ≡ nameMost ⌝ }
-    ensures { λ r. ⌜ r ≡ isSetName (now (bytes .entry)) len ⌝ }
+    ensures { λ r. ⌜ r ≡ isSetName (before bytes) len ⌝ }
 {
     if dots::NAME_MOST < len {
         return false;
@@ -55,7 +56,7 @@ fn set_name_ok(bytes: &[u8], len: usize) -> bool
 // Whether the first count dots are a tombstone of the clock, and the other bytes 0.
 fn tombstone_ok<'a>(words: &'a clock::Words, bytes: &'a [u8], count: usize) -> bool
     requires { ⌜ length (now bytes) ≡ tombstoneSize ⌝ }
-    ensures { λ r. ⌜ r ≡ isTombstone (now (words .entry)) (now (bytes .entry)) count ⌝ }
+    ensures { λ r. ⌜ r ≡ isTombstone (before words) (before bytes) count ⌝ }
 {
     if dots::TOMBSTONE_MOST < count {
         return false;
@@ -72,7 +73,7 @@ fn state_ok<'a>(
     words: &'a clock::Words,
     tombstone: &'a [u8; dots::TOMBSTONE_SIZE],
 ) -> bool
-    ensures { λ r. ⌜ r ≡ stateOk (stateFrom head (now (words .entry)) (now (tombstone .entry))) ⌝ }
+    ensures { λ r. ⌜ r ≡ stateOk (stateFrom head (before words) (before tombstone)) ⌝ }
 {
     let name = head.name.bytes;
     let own = head.actor;
@@ -91,7 +92,7 @@ fn judge_store(
     label: &[u8],
 ) -> store::Judgement
     requires { ⌜ (name .len ≤ nameMost) × (nameOk (take (name .len) (name .bytes)) ≡ true) ⌝ }
-    ensures { λ r. ⌜ JudgesStore name (now (words .entry)) (now (store .entry)) used (now (label .entry)) r ⌝ }
+    ensures { λ r. ⌜ JudgesStore name (before words) (before store) used (before label) r ⌝ }
 {
     let bytes = name.bytes;
     let len = name.len;
@@ -106,7 +107,7 @@ pub fn judge<'a>(
     store: &[u8],
     label: &[u8],
 ) -> store::Judgement
-    ensures { λ r. ⌜ Judges (stateFrom head (now (words .entry)) (now (tombstone .entry))) (now (store .entry)) (now (label .entry)) r ⌝ }
+    ensures { λ r. ⌜ Judges (stateFrom head (before words) (before tombstone)) (before store) (before label) r ⌝ }
 {
     if !state_ok(head, words, tombstone) {
         return store::Judgement::Damaged;
@@ -122,7 +123,7 @@ pub fn damaged<'a>(
     tombstone: &'a [u8; dots::TOMBSTONE_SIZE],
     store: &[u8],
 ) -> bool
-    ensures { λ r. ⌜ r ≡ isDamaged (stateFrom head (now (words .entry)) (now (tombstone .entry))) (now (store .entry)) ⌝ }
+    ensures { λ r. ⌜ r ≡ isDamaged (stateFrom head (before words) (before tombstone)) (before store) ⌝ }
 {
     store::is_damage(judge(head, words, tombstone, store, &store[0..0]))
 }

@@ -4,6 +4,7 @@ ghost use mathlib.Core.Bool.{true, cond};
 ghost use mathlib.Core.List.{[]};
 ghost use Prim.Native.Nat.{_+_, _≤_};
 ghost use lib.ListN.{length, drop};
+ghost use Rattle.wire.specs.Loans.{before, after};
 ghost use Rattle.wire.specs.Bytes.{byteAt, numberAt, span, putAt};
 ghost use Rattle.keys.specs.declared.KeyKind.the-variants.{ClockKey, LabelKey, EndKey};
 ghost use Rattle.keys.specs.Key.{keyOf, typeByte, hasLabel, hasActor, namesOk, keyCounterOk, keyBytes, suffixSize, prefixFixed};
@@ -99,7 +100,7 @@ fn has_actor(kind: KeyKind) -> bool
 
 // Whether name, label and actor keep their rules, where the type has them.
 fn names_ok(kind: KeyKind, name: &[u8], label: &[u8], actor: u8) -> bool
-    ensures { λ r. ⌜ r ≡ namesOk (keyOf kind (now (name .entry)) (now (label .entry)) actor 0) ⌝ }
+    ensures { λ r. ⌜ r ≡ namesOk (keyOf kind (before name) (before label) actor 0) ⌝ }
 {
     let name_fits = dots::name_ok(name);
     let label_fits = !has_label(kind) | dots::label_ok(label);
@@ -128,7 +129,7 @@ fn tail_length(kind: KeyKind) -> usize
 
 // A field that a type has, and no bytes where it lacks it.
 fn kept<'a>(has: bool, field: &'a [u8]) -> &'a [u8]
-    ensures { λ r. ⌜ now r ≡ cond has (now (field .entry)) [] ⌝ }
+    ensures { λ r. ⌜ now r ≡ cond has (before field) [] ⌝ }
 {
     if has {
         return field;
@@ -145,7 +146,7 @@ fn write_answer(
     counter: u64,
     room: usize,
 ) -> dots::Answer
-    ensures { λ r. ⌜ r ≡ writeAnswer (keyOf kind (now (name .entry)) (now (label .entry)) actor counter) room ⌝ }
+    ensures { λ r. ⌜ r ≡ writeAnswer (keyOf kind (before name) (before label) actor counter) room ⌝ }
 {
     if !names_ok(kind, name, label, actor) {
         return dots::Answer::BadName;
@@ -162,7 +163,7 @@ fn write_answer(
 // Puts magic byte, version byte, name, 00 and type byte at the front of out.
 fn put_front(out: &mut [u8], name: &[u8], byte: u8) -> usize
     requires { ⌜ length (now name) + prefixFixed ≤ length (now out) ⌝ }
-    ensures { λ r. ⌜ FrontPut (now (name .entry)) byte (now (out .entry)) (now (out .exit)) r ⌝ }
+    ensures { λ r. ⌜ FrontPut (before name) byte (before out) (after out) r ⌝ }
 {
     let head = [2u8, 1u8];
     let next = moves::put(out, 0, &head);
@@ -174,7 +175,7 @@ fn put_front(out: &mut [u8], name: &[u8], byte: u8) -> usize
 // Puts 00, actor, 00 and counter into out at a place.
 fn put_dot(out: &mut [u8], at: usize, actor: u8, counter: u64) -> usize
     requires { ⌜ at + suffixSize ≤ length (now out) ⌝ }
-    ensures { λ r. ⌜ (r ≡ at + suffixSize) × (now (out .exit) ≡ putAt (now (out .entry)) at (tailBytes LabelKey actor counter)) ⌝ }
+    ensures { λ r. ⌜ (r ≡ at + suffixSize) × (after out ≡ putAt (before out) at (tailBytes LabelKey actor counter)) ⌝ }
 {
     let front = [0u8, actor, 0u8];
     let number = wire::number_bytes(counter);
@@ -185,7 +186,7 @@ fn put_dot(out: &mut [u8], at: usize, actor: u8, counter: u64) -> usize
 // Puts 00, actor and 00 into out at a place.
 fn put_actor(out: &mut [u8], at: usize, actor: u8) -> usize
     requires { ⌜ at + 3 ≤ length (now out) ⌝ }
-    ensures { λ r. ⌜ (r ≡ at + 3) × (now (out .exit) ≡ putAt (now (out .entry)) at (tailBytes ClockKey actor 0)) ⌝ }
+    ensures { λ r. ⌜ (r ≡ at + 3) × (after out ≡ putAt (before out) at (tailBytes ClockKey actor 0)) ⌝ }
 {
     let tail = [0u8, actor, 0u8];
     moves::put(out, at, &tail)
@@ -194,7 +195,7 @@ fn put_actor(out: &mut [u8], at: usize, actor: u8) -> usize
 // Puts 00 and 00 into out at a place.
 fn put_end(out: &mut [u8], at: usize) -> usize
     requires { ⌜ at + 2 ≤ length (now out) ⌝ }
-    ensures { λ r. ⌜ (r ≡ at + 2) × (now (out .exit) ≡ putAt (now (out .entry)) at (tailBytes EndKey 0 0)) ⌝ }
+    ensures { λ r. ⌜ (r ≡ at + 2) × (after out ≡ putAt (before out) at (tailBytes EndKey 0 0)) ⌝ }
 {
     let tail = [0u8, 0u8];
     moves::put(out, at, &tail)
@@ -203,7 +204,7 @@ fn put_end(out: &mut [u8], at: usize) -> usize
 // Puts what follows the label into out at a place.
 fn put_tail(out: &mut [u8], at: usize, kind: KeyKind, actor: u8, counter: u64) -> usize
     requires { ⌜ at + tailLength kind ≤ length (now out) ⌝ }
-    ensures { λ r. ⌜ (r ≡ at + tailLength kind) × (now (out .exit) ≡ putAt (now (out .entry)) at (tailBytes kind actor counter)) ⌝ }
+    ensures { λ r. ⌜ (r ≡ at + tailLength kind) × (after out ≡ putAt (before out) at (tailBytes kind actor counter)) ⌝ }
 {
     match kind {
         KeyKind::ClockKey => put_actor(out, at, actor),
@@ -223,7 +224,7 @@ fn put_key(
     counter: u64,
 ) -> usize
     requires { ⌜ length (keyBytes (keyOf kind (now name) (now label) actor counter)) ≤ length (now out) ⌝ }
-    ensures { λ r. ⌜ KeyPut (keyOf kind (now (name .entry)) (now (label .entry)) actor counter) (now (out .entry)) (now (out .exit)) r ⌝ }
+    ensures { λ r. ⌜ KeyPut (keyOf kind (before name) (before label) actor counter) (before out) (after out) r ⌝ }
 {
     let byte = type_byte(kind);
     let label_part = kept(has_label(kind), label);
@@ -241,7 +242,7 @@ pub fn write_key(
     counter: u64,
     out: &mut [u8],
 ) -> KeyWritten
-    ensures { λ r. ⌜ WroteKey (keyOf kind (now (name .entry)) (now (label .entry)) actor counter) (now (out .entry)) (now (out .exit)) r ⌝ }
+    ensures { λ r. ⌜ WroteKey (keyOf kind (before name) (before label) actor counter) (before out) (after out) r ⌝ }
 {
     let answer = write_answer(kind, name, label, actor, counter, out.len());
     if dots::number_of(answer) != 0 {
@@ -261,7 +262,7 @@ pub fn write_key(
 
 // The bytes from a place on, and none past the end.
 fn rest<'a>(s: &'a [u8], at: usize) -> &'a [u8]
-    ensures { λ r. ⌜ now r ≡ drop at (now (s .entry)) ⌝ }
+    ensures { λ r. ⌜ now r ≡ drop at (before s) ⌝ }
 {
     if s.len() < at {
         return &s[0..0];
@@ -271,7 +272,7 @@ fn rest<'a>(s: &'a [u8], at: usize) -> &'a [u8]
 
 // The length of the set name: it ends at the first 00 after magic and version byte.
 fn name_length(s: &[u8]) -> usize
-    ensures { λ r. ⌜ (r ≡ nameLength (now (s .entry))) × (r ≤ length (now (s .entry))) ⌝ }
+    ensures { λ r. ⌜ (r ≡ nameLength (before s)) × (r ≤ length (before s)) ⌝ }
 {
     search::zero_at(rest(s, 2))
 }
@@ -279,7 +280,7 @@ fn name_length(s: &[u8]) -> usize
 // Whether magic byte, version byte, the length n of the name and the type byte are those of a key.
 fn front_ok(s: &[u8], kind: KeyKind, n: usize) -> bool
     requires { ⌜ (n ≡ nameLength (now s)) × (n ≤ length (now s)) ⌝ }
-    ensures { λ r. ⌜ r ≡ frontOk kind (now (s .entry)) ⌝ }
+    ensures { λ r. ⌜ r ≡ frontOk kind (before s) ⌝ }
 {
     let magic = wire::byte_at(s, 0);
     let version = wire::byte_at(s, 1);
@@ -289,7 +290,7 @@ fn front_ok(s: &[u8], kind: KeyKind, n: usize) -> bool
 
 // Whether t is label, 00, actor, 00 and counter.
 fn label_after(t: &[u8]) -> bool
-    ensures { λ r. ⌜ r ≡ labelAfter (now (t .entry)) ⌝ }
+    ensures { λ r. ⌜ r ≡ labelAfter (before t) ⌝ }
 {
     let n = search::zero_at(t);
     if t.len() - n != SUFFIX_SIZE {
@@ -306,7 +307,7 @@ fn label_after(t: &[u8]) -> bool
 
 // Whether t is 00, actor and 00.
 fn actor_after(t: &[u8]) -> bool
-    ensures { λ r. ⌜ r ≡ actorAfter (now (t .entry)) ⌝ }
+    ensures { λ r. ⌜ r ≡ actorAfter (before t) ⌝ }
 {
     let first = wire::byte_at(t, 0);
     let actor = wire::byte_at(t, 1);
@@ -316,7 +317,7 @@ fn actor_after(t: &[u8]) -> bool
 
 // Whether t is 00 and 00.
 fn end_after(t: &[u8]) -> bool
-    ensures { λ r. ⌜ r ≡ endAfter (now (t .entry)) ⌝ }
+    ensures { λ r. ⌜ r ≡ endAfter (before t) ⌝ }
 {
     let first = wire::byte_at(t, 0);
     let last = wire::byte_at(t, 1);
@@ -325,7 +326,7 @@ fn end_after(t: &[u8]) -> bool
 
 // Whether t follows the type byte of a key of this type.
 fn after_ok(kind: KeyKind, t: &[u8]) -> bool
-    ensures { λ r. ⌜ r ≡ afterOk kind (now (t .entry)) ⌝ }
+    ensures { λ r. ⌜ r ≡ afterOk kind (before t) ⌝ }
 {
     match kind {
         KeyKind::ClockKey => actor_after(t),
@@ -338,7 +339,7 @@ fn after_ok(kind: KeyKind, t: &[u8]) -> bool
 // Whether s is a key of this type; n is the length of its name.
 fn is_key(s: &[u8], kind: KeyKind, n: usize) -> bool
     requires { ⌜ (n ≡ nameLength (now s)) × (n ≤ length (now s)) ⌝ }
-    ensures { λ r. ⌜ r ≡ isKey kind (now (s .entry)) ⌝ }
+    ensures { λ r. ⌜ r ≡ isKey kind (before s) ⌝ }
 {
     let front = front_ok(s, kind, n);
     let after = after_ok(kind, rest(s, n + PREFIX_FIXED));
@@ -357,7 +358,7 @@ fn label_span(has: bool, at: usize, len: usize) -> wire::Span
 
 // The actor at a place, if there is one.
 fn actor_at(s: &[u8], has: bool, at: usize) -> u8
-    ensures { λ r. ⌜ r ≡ cond has (byteAt (now (s .entry)) at) 0 ⌝ }
+    ensures { λ r. ⌜ r ≡ cond has (byteAt (before s) at) 0 ⌝ }
 {
     if has {
         return wire::byte_at(s, at);
@@ -368,7 +369,7 @@ fn actor_at(s: &[u8], has: bool, at: usize) -> u8
 // The counter at a place, if there is one.
 fn counter_at(s: &[u8], has: bool, at: usize) -> u64
     requires { ⌜ cond has (at + 8) 0 ≤ length (now s) ⌝ }
-    ensures { λ r. ⌜ r ≡ cond has (numberAt 8 (now (s .entry)) at) 0 ⌝ }
+    ensures { λ r. ⌜ r ≡ cond has (numberAt 8 (before s) at) 0 ⌝ }
 {
     if has {
         return wire::number_at(s, at);
@@ -379,7 +380,7 @@ fn counter_at(s: &[u8], has: bool, at: usize) -> u64
 // The fields of a key of this type; n is the length of its name.
 fn found_key(s: &[u8], kind: KeyKind, n: usize) -> KeyRead
     requires { ⌜ (isKey kind (now s) ≡ true) × (n ≡ nameLength (now s)) × (n ≤ length (now s)) ⌝ }
-    ensures { λ r. ⌜ r ≡ foundKey kind (now (s .entry)) ⌝ }
+    ensures { λ r. ⌜ r ≡ foundKey kind (before s) ⌝ }
 {
     let l = search::zero_at(rest(s, n + PREFIX_FIXED));
     let labelled = has_label(kind);
@@ -413,7 +414,7 @@ fn no_key() -> KeyRead
 
 // Reads a key.
 pub fn read_key(s: &[u8]) -> KeyRead
-    ensures { λ r. ⌜ r ≡ readKey (now (s .entry)) ⌝ }
+    ensures { λ r. ⌜ r ≡ readKey (before s) ⌝ }
 {
     let n = name_length(s);
     let kind = kind_of(wire::byte_at(s, n + 3));

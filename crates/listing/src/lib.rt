@@ -3,6 +3,7 @@ ghost use mathlib.Core.Path.{_≡_};
 ghost use mathlib.Core.Bool.{true, not};
 ghost use Prim.Native.Nat.{_+_, _^_, _≤_, _<_};
 ghost use lib.ListN.{length};
+ghost use Rattle.wire.specs.Loans.{before, after};
 ghost use Rattle.wire.specs.Lists.{any, member};
 ghost use Rattle.wire.specs.Bytes.{compareBytes, bigEndian};
 ghost use Rattle.dots.specs.Dots.{compareDots, ascendingDots};
@@ -50,7 +51,7 @@ struct ListedKey {
 // The key at a place, with the slots of the tombstone's dots.
 fn listed_key(n: usize, keys: &[u8], tombstone: &[u8], slots: &slots::Slots, at: usize) -> ListedKey
     requires { ⌜ CanListKey n (now keys) (now tombstone) (now slots) at ⌝ }
-    ensures { λ r. ⌜ KeyAt n (now (keys .entry)) (dotsOf (now (tombstone .entry))) at r ⌝ }
+    ensures { λ r. ⌜ KeyAt n (before keys) (dotsOf (before tombstone)) at r ⌝ }
 {
     let end = at + store::key_length(n, &keys[at..]);
     let dot = store::key_dot(&keys[at..end]);
@@ -67,7 +68,7 @@ fn listed_key(n: usize, keys: &[u8], tombstone: &[u8], slots: &slots::Slots, at:
 // Whether some key's dot is not in the tombstone.
 pub fn any_live(n: usize, keys: &[u8], tombstone: &[u8]) -> bool
     requires { ⌜ (n ≤ nameMost) × (keysFit n (now keys) ≡ true) × (ascendingDots (dotsOf (now tombstone)) ≡ true) ⌝ }
-    ensures { λ r. ⌜ r ≡ any (λ (e : Entry). not (member compareDots (e .dot) (dotsOf (now (tombstone .entry))))) (entriesIn n (now (keys .entry))) ⌝ }
+    ensures { λ r. ⌜ r ≡ any (λ (e : Entry). not (member compareDots (e .dot) (dotsOf (before tombstone)))) (entriesIn n (before keys)) ⌝ }
 {
     if keys.len() == 0 {
         return false;
@@ -86,7 +87,7 @@ pub fn any_live(n: usize, keys: &[u8], tombstone: &[u8]) -> bool
 
 // Whether two labels are the same.
 fn same_label(a: &[u8], b: &[u8]) -> bool
-    ensures { λ r. ⌜ r ≡ isEq (compareBytes (now (a .entry)) (now (b .entry))) ⌝ }
+    ensures { λ r. ⌜ r ≡ isEq (compareBytes (before a) (before b)) ⌝ }
 {
     let starts = search::starts_with(a, b);
     (a.len() == b.len()) & starts
@@ -96,7 +97,7 @@ fn same_label(a: &[u8], b: &[u8]) -> bool
 // one dot more where the label is the line's, else a new line.
 fn next_line(keys: &[u8], line: OpenLine, from: usize, to: usize) -> OpenLine
     requires { ⌜ LineFits (now keys) line from to ⌝ }
-    ensures { λ r. ⌜ r ≡ nextLine (now (keys .entry)) line from to ⌝ }
+    ensures { λ r. ⌜ r ≡ nextLine (before keys) line from to ⌝ }
 {
     let first = line.from;
     let last = line.to;
@@ -122,7 +123,7 @@ fn next_line(keys: &[u8], line: OpenLine, from: usize, to: usize) -> OpenLine
 // How long the listing is, and how many labels it has.
 pub fn listing_size(n: usize, keys: &[u8], tombstone: &[u8], slots: &slots::Slots) -> ListingSize
     requires { ⌜ CanList n (now keys) (now tombstone) (now slots) ⌝ }
-    ensures { λ r. ⌜ IsListingSize (keyLines n (now (keys .entry)) (now (tombstone .entry))) r ⌝ }
+    ensures { λ r. ⌜ IsListingSize (keyLines n (before keys) (before tombstone)) r ⌝ }
 {
     let mut line = OpenLine {
         from: 0,
@@ -156,7 +157,7 @@ fn count_bytes(n: usize) -> [u8; 2]
 // Before the first dot of a line that ends at a place, writes the length of its label and the label.
 fn write_label(out: &mut [u8], end: usize, count: usize, label: &[u8])
     requires { ⌜ (length (now label) < 256) × (length (now label) + newLineFixed ≤ end) × (end ≤ length (now out)) ⌝ }
-    ensures { λ _. ⌜ now (out .exit) ≡ labelWritten (now (out .entry)) end count (now (label .entry)) ⌝ }
+    ensures { λ _. ⌜ after out ≡ labelWritten (before out) end count (before label) ⌝ }
 {
     if count != 1 {
         return;
@@ -169,7 +170,7 @@ fn write_label(out: &mut [u8], end: usize, count: usize, label: &[u8])
 // Writes the last dot of a line that ends at a place, the number of its dots, and before the first dot the label.
 fn write_dot(out: &mut [u8], end: usize, count: usize, label: &[u8], dot: dots::Dot)
     requires { ⌜ DotFits (length (now out)) end count (now label) ⌝ }
-    ensures { λ _. ⌜ now (out .exit) ≡ dotWritten (now (out .entry)) end count (now (label .entry)) dot ⌝ }
+    ensures { λ _. ⌜ after out ≡ dotWritten (before out) end count (before label) dot ⌝ }
 {
     write_label(out, end, count, label);
     moves::put(out, end - dots::DOT_SIZE * count - 2, &count_bytes(count));
@@ -185,7 +186,7 @@ pub fn write_listing(
     out: &mut [u8],
 ) -> ListingSize
     requires { ⌜ CanWriteListing n (now keys) (now tombstone) (now slots) (length (now out)) ⌝ }
-    ensures { λ r. ⌜ ListingWritten (keyLines n (now (keys .entry)) (now (tombstone .entry))) (now (out .entry)) (now (out .exit)) r ⌝ }
+    ensures { λ r. ⌜ ListingWritten (keyLines n (before keys) (before tombstone)) (before out) (after out) r ⌝ }
 {
     let mut line = OpenLine {
         from: 0,

@@ -3,6 +3,7 @@ ghost use mathlib.Core.Path.{_≡_};
 ghost use mathlib.Core.List.{_∷_};
 ghost use Prim.Native.Nat.{_+_, _≤_, _<_};
 ghost use lib.ListN.{length};
+ghost use Rattle.wire.specs.Loans.{before, after};
 ghost use Rattle.wire.specs.Bytes.{putAt};
 ghost use Rattle.dots.specs.Answer.{firstOf};
 ghost use Rattle.dots.specs.Message.{add, remove};
@@ -42,7 +43,7 @@ pub struct MessageRead {
 // The field whose length byte stands at a place.
 fn counted_at(s: &[u8], at: usize) -> wire::Span
     requires { ⌜ at ≤ 1024 ⌝ }
-    ensures { λ r. ⌜ (r ≡ countedAt (now (s .entry)) at) × (r .at ≡ at + 1) × (r .len < 256) ⌝ }
+    ensures { λ r. ⌜ (r ≡ countedAt (before s) at) × (r .at ≡ at + 1) × (r .len < 256) ⌝ }
 {
     let len = wire::size_at(s, at);
     wire::Span {
@@ -54,7 +55,7 @@ fn counted_at(s: &[u8], at: usize) -> wire::Span
 // The dots whose number stands at a place.
 fn dots_counted_at(s: &[u8], at: usize) -> wire::Span
     requires { ⌜ at ≤ 1024 ⌝ }
-    ensures { λ r. ⌜ (r ≡ dotsCountedAt (now (s .entry)) at) × (r .at ≡ at + 1) × (r .len ≤ 2295) ⌝ }
+    ensures { λ r. ⌜ (r ≡ dotsCountedAt (before s) at) × (r .at ≡ at + 1) × (r .len ≤ 2295) ⌝ }
 {
     let count = wire::size_at(s, at);
     wire::Span {
@@ -64,7 +65,7 @@ fn dots_counted_at(s: &[u8], at: usize) -> wire::Span
 }
 
 fn add_layout(s: &[u8]) -> Layout
-    ensures { λ r. ⌜ (r ≡ addLayout (now (s .entry))) × Small r ⌝ }
+    ensures { λ r. ⌜ (r ≡ addLayout (before s)) × Small r ⌝ }
 {
     let kind = wire::byte_at(s, 5);
     let name = counted_at(s, 6);
@@ -81,7 +82,7 @@ fn add_layout(s: &[u8]) -> Layout
 }
 
 fn remove_layout(s: &[u8]) -> Layout
-    ensures { λ r. ⌜ (r ≡ removeLayout (now (s .entry))) × Small r ⌝ }
+    ensures { λ r. ⌜ (r ≡ removeLayout (before s)) × Small r ⌝ }
 {
     let kind = wire::byte_at(s, 5);
     let name = counted_at(s, 6);
@@ -96,7 +97,7 @@ fn remove_layout(s: &[u8]) -> Layout
 }
 
 fn layout_of(s: &[u8]) -> Layout
-    ensures { λ r. ⌜ (r ≡ layoutOf (now (s .entry))) × Small r ⌝ }
+    ensures { λ r. ⌜ (r ≡ layoutOf (before s)) × Small r ⌝ }
 {
     if wire::byte_at(s, 5) == b'a' {
         return add_layout(s);
@@ -107,7 +108,7 @@ fn layout_of(s: &[u8]) -> Layout
 // ---- the answer
 
 fn mark_ok(s: &[u8]) -> bool
-    ensures { λ r. ⌜ r ≡ markOk (now (s .entry)) ⌝ }
+    ensures { λ r. ⌜ r ≡ markOk (before s) ⌝ }
 {
     let first = wire::byte_at(s, 0);
     let second = wire::byte_at(s, 1);
@@ -116,7 +117,7 @@ fn mark_ok(s: &[u8]) -> bool
 }
 
 fn version_ok(s: &[u8]) -> bool
-    ensures { λ r. ⌜ r ≡ versionOk (now (s .entry)) ⌝ }
+    ensures { λ r. ⌜ r ≡ versionOk (before s) ⌝ }
 {
     wire::size_at(s, 3) * 256 + wire::size_at(s, 4) == 1
 }
@@ -124,7 +125,7 @@ fn version_ok(s: &[u8]) -> bool
 // Whether the kind is known and the fields end where the bytes do.
 fn shape_ok(s: &[u8], l: Layout) -> bool
     requires { ⌜ Small l ⌝ }
-    ensures { λ r. ⌜ r ≡ shapeOk (now (s .entry)) l ⌝ }
+    ensures { λ r. ⌜ r ≡ shapeOk (before s) l ⌝ }
 {
     ((l.kind == b'a') | (l.kind == b'r')) & (l.context.at + l.context.len == s.len())
 }
@@ -132,7 +133,7 @@ fn shape_ok(s: &[u8], l: Layout) -> bool
 // Whether set name and label keep their rules.
 fn names_ok(s: &[u8], l: Layout) -> bool
     requires { ⌜ Small l ⌝ }
-    ensures { λ r. ⌜ r ≡ namesOk (nameAt (now (s .entry)) l) (messageAt (now (s .entry)) l) ⌝ }
+    ensures { λ r. ⌜ r ≡ namesOk (nameAt (before s) l) (messageAt (before s) l) ⌝ }
 {
     let name = dots::name_ok(wire::part(s, l.name.at, l.name.len));
     if l.kind == b'a' {
@@ -144,7 +145,7 @@ fn names_ok(s: &[u8], l: Layout) -> bool
 // Whether dot and context keep their rules, and the own dot is not in the context.
 fn dots_ok(s: &[u8], l: Layout) -> bool
     requires { ⌜ Small l × Within (now s) l ⌝ }
-    ensures { λ r. ⌜ r ≡ dotsOk (messageAt (now (s .entry)) l) ⌝ }
+    ensures { λ r. ⌜ r ≡ dotsOk (messageAt (before s) l) ⌝ }
 {
     let context = wire::part(s, l.context.at, l.context.len);
     let rule = contexts::context_ok(context);
@@ -158,7 +159,7 @@ fn dots_ok(s: &[u8], l: Layout) -> bool
 // The answer of the fields' rules.
 fn fields_answer(s: &[u8], l: Layout) -> dots::Answer
     requires { ⌜ Small l × Within (now s) l ⌝ }
-    ensures { λ r. ⌜ r ≡ firstOf (fieldRefusals (now (s .entry)) l) ⌝ }
+    ensures { λ r. ⌜ r ≡ firstOf (fieldRefusals (before s) l) ⌝ }
 {
     let bad_name = !names_ok(s, l);
     let bad_dot = !dots_ok(s, l);
@@ -172,7 +173,7 @@ fn fields_answer(s: &[u8], l: Layout) -> dots::Answer
 // The answer of the structure; where it is right the fields lie within the bytes, and their rules answer.
 fn shape_answer(s: &[u8], l: Layout) -> dots::Answer
     requires { ⌜ (l ≡ layoutOf (now s)) × Small l ⌝ }
-    ensures { λ r. ⌜ r ≡ firstOf (shapeRefusals (now (s .entry)) l) ⌝ }
+    ensures { λ r. ⌜ r ≡ firstOf (shapeRefusals (before s) l) ⌝ }
 {
     if shape_ok(s, l) {
         return fields_answer(s, l);
@@ -183,7 +184,7 @@ fn shape_answer(s: &[u8], l: Layout) -> dots::Answer
 // The answer to a message.
 fn read_answer(s: &[u8], l: Layout) -> dots::Answer
     requires { ⌜ (l ≡ layoutOf (now s)) × Small l ⌝ }
-    ensures { λ r. ⌜ r ≡ readAnswer (now (s .entry)) ⌝ }
+    ensures { λ r. ⌜ r ≡ readAnswer (before s) ⌝ }
 {
     let no_mark = !mark_ok(s);
     let bad_version = !version_ok(s);
@@ -200,7 +201,7 @@ fn read_answer(s: &[u8], l: Layout) -> dots::Answer
 // An add's own dot, and the zero dot of a remove.
 fn own_dot(s: &[u8], l: Layout) -> dots::Dot
     requires { ⌜ Within (now s) l ⌝ }
-    ensures { λ r. ⌜ r ≡ ownDot (now (s .entry)) l ⌝ }
+    ensures { λ r. ⌜ r ≡ ownDot (before s) l ⌝ }
 {
     if l.kind == b'a' {
         return dots::dot_at(s, l.dot);
@@ -214,7 +215,7 @@ fn own_dot(s: &[u8], l: Layout) -> dots::Dot
 // What reading gives of a message that is accepted.
 fn found_message(s: &[u8], l: Layout, answer: dots::Answer) -> MessageRead
     requires { ⌜ Within (now s) l ⌝ }
-    ensures { λ r. ⌜ r ≡ foundMessage (now (s .entry)) l answer ⌝ }
+    ensures { λ r. ⌜ r ≡ foundMessage (before s) l answer ⌝ }
 {
     let dot = own_dot(s, l);
     let name = l.name;
@@ -249,7 +250,7 @@ fn no_message(answer: dots::Answer) -> MessageRead
 
 // Reads a message.
 pub fn read_message(s: &[u8]) -> MessageRead
-    ensures { λ r. ⌜ r ≡ readOf (now (s .entry)) ⌝ }
+    ensures { λ r. ⌜ r ≡ readOf (before s) ⌝ }
 {
     let l = layout_of(s);
     let answer = read_answer(s, l);
@@ -264,7 +265,7 @@ pub fn read_message(s: &[u8]) -> MessageRead
 // Puts a count and what it counts.
 fn put_counted(out: &mut [u8], at: usize, count: u8, field: &[u8]) -> usize
     requires { ⌜ at + 1 + length (now field) ≤ length (now out) ⌝ }
-    ensures { λ r. ⌜ (r ≡ at + 1 + length (now (field .entry))) × (now (out .exit) ≡ putAt (now (out .entry)) at (count ∷ now (field .entry))) ⌝ }
+    ensures { λ r. ⌜ (r ≡ at + 1 + length (before field)) × (after out ≡ putAt (before out) at (count ∷ before field)) ⌝ }
 {
     let first = [count];
     let next = moves::put(out, at, &first);
@@ -274,7 +275,7 @@ fn put_counted(out: &mut [u8], at: usize, count: u8, field: &[u8]) -> usize
 // Puts mark, version 1, kind and set name at the front.
 fn put_front(out: &mut [u8], kind: u8, name: &[u8]) -> usize
     requires { ⌜ (length (now name) ≤ nameMost) × (length (now name) + frontFixed ≤ length (now out)) ⌝ }
-    ensures { λ r. ⌜ FrontPut kind (now (name .entry)) (now (out .entry)) (now (out .exit)) r ⌝ }
+    ensures { λ r. ⌜ FrontPut kind (before name) (before out) (after out) r ⌝ }
 {
     let head = [b'P', b'T', b'L', 0, 1, kind];
     let at = moves::put(out, 0, &head);
@@ -284,7 +285,7 @@ fn put_front(out: &mut [u8], kind: u8, name: &[u8]) -> usize
 // Puts a dot in nine bytes.
 fn put_dot(out: &mut [u8], at: usize, dot: dots::Dot) -> usize
     requires { ⌜ at + dotSize ≤ length (now out) ⌝ }
-    ensures { λ r. ⌜ (r ≡ at + dotSize) × (now (out .exit) ≡ putAt (now (out .entry)) at (dotBytes dot)) ⌝ }
+    ensures { λ r. ⌜ (r ≡ at + dotSize) × (after out ≡ putAt (before out) at (dotBytes dot)) ⌝ }
 {
     let bytes = dots::dot_bytes(dot);
     moves::put(out, at, &bytes)
@@ -293,7 +294,7 @@ fn put_dot(out: &mut [u8], at: usize, dot: dots::Dot) -> usize
 // Puts the number of dots of a context, and the context.
 fn put_context(out: &mut [u8], at: usize, context: &[u8]) -> usize
     requires { ⌜ WholeContext (now context) × (at + 1 + length (now context) ≤ length (now out)) ⌝ }
-    ensures { λ r. ⌜ ContextPut (now (context .entry)) at (now (out .entry)) (now (out .exit)) r ⌝ }
+    ensures { λ r. ⌜ ContextPut (before context) at (before out) (after out) r ⌝ }
 {
     put_counted(out, at, (context.len() / dots::DOT_SIZE) as u8, context)
 }
@@ -301,7 +302,7 @@ fn put_context(out: &mut [u8], at: usize, context: &[u8]) -> usize
 // Writes an add message at the front of out. Returns its length.
 pub fn write_add(name: &[u8], label: &[u8], dot: dots::Dot, context: &[u8], out: &mut [u8]) -> usize
     requires { ⌜ AddFits (now name) (now label) (now context) (length (now out)) ⌝ }
-    ensures { λ r. ⌜ Wrote (now (name .entry)) (add (now (label .entry)) dot (dotsOf (now (context .entry)))) (now (out .entry)) (now (out .exit)) r ⌝ }
+    ensures { λ r. ⌜ Wrote (before name) (add (before label) dot (dotsOf (before context))) (before out) (after out) r ⌝ }
 {
     let label_at = put_front(out, b'a', name);
     let dot_at = put_counted(out, label_at, label.len() as u8, label);
@@ -312,7 +313,7 @@ pub fn write_add(name: &[u8], label: &[u8], dot: dots::Dot, context: &[u8], out:
 // Writes a remove message at the front of out. Returns its length.
 pub fn write_remove(name: &[u8], context: &[u8], out: &mut [u8]) -> usize
     requires { ⌜ RemoveFits (now name) (now context) (length (now out)) ⌝ }
-    ensures { λ r. ⌜ Wrote (now (name .entry)) (remove (dotsOf (now (context .entry)))) (now (out .entry)) (now (out .exit)) r ⌝ }
+    ensures { λ r. ⌜ Wrote (before name) (remove (dotsOf (before context))) (before out) (after out) r ⌝ }
 {
     let context_at = put_front(out, b'r', name);
     put_context(out, context_at, context)

@@ -3,6 +3,7 @@ ghost use mathlib.Core.Path.{_≡_};
 ghost use mathlib.Core.List.{_++_};
 ghost use Prim.Native.Nat.{_+_, _-_, _≤_};
 ghost use lib.ListN.{length, take, drop, replicate};
+ghost use Rattle.wire.specs.Loans.{before, after};
 ghost use Rattle.wire.specs.Bytes.{putAt, insertedAt};
 
 // ---- writing and moving
@@ -10,7 +11,7 @@ ghost use Rattle.wire.specs.Bytes.{putAt, insertedAt};
 // Puts src into out at a place. Returns the place after it.
 pub fn put(out: &mut [u8], at: usize, src: &[u8]) -> usize
     requires { ⌜ at + length (now src) ≤ length (now out) ⌝ }
-    ensures { λ r. ⌜ (r ≡ at + length (now (src .entry))) × (now (out .exit) ≡ putAt (now (out .entry)) at (now (src .entry))) ⌝ }
+    ensures { λ r. ⌜ (r ≡ at + length (before src)) × (after out ≡ putAt (before out) at (before src)) ⌝ }
 {
     let end = at + src.len();
     bytes::copy(src, &mut out[at..end]);
@@ -20,7 +21,7 @@ pub fn put(out: &mut [u8], at: usize, src: &[u8]) -> usize
 // Moves all but the last `by` bytes of s up by `by`, in place; the first `by` keep their values.
 fn shift_up(s: &mut [u8], by: usize)
     requires { ⌜ by ≤ length (now s) ⌝ }
-    ensures { λ _. ⌜ now (s .exit) ≡ take by (now (s .entry)) ++ take (length (now (s .entry)) - by) (now (s .entry)) ⌝ }
+    ensures { λ _. ⌜ after s ≡ take by (before s) ++ take (length (before s) - by) (before s) ⌝ }
 {
     let mut i = s.len() - by;
     while 0 < i {
@@ -32,7 +33,7 @@ fn shift_up(s: &mut [u8], by: usize)
 // Moves all but the first `by` bytes of s down by `by`, in place; the last `by` keep their values.
 pub fn shift_down(s: &mut [u8], by: usize)
     requires { ⌜ by ≤ length (now s) ⌝ }
-    ensures { λ _. ⌜ now (s .exit) ≡ drop by (now (s .entry)) ++ drop (length (now (s .entry)) - by) (now (s .entry)) ⌝ }
+    ensures { λ _. ⌜ after s ≡ drop by (before s) ++ drop (length (before s) - by) (before s) ⌝ }
 {
     let left = s.len() - by;
     let mut i = 0;
@@ -44,7 +45,7 @@ pub fn shift_down(s: &mut [u8], by: usize)
 
 // Sets all of s to 0.
 pub fn clear(s: &mut [u8])
-    ensures { λ _. ⌜ now (s .exit) ≡ replicate (length (now (s .entry))) 0 ⌝ }
+    ensures { λ _. ⌜ after s ≡ replicate (length (before s)) 0 ⌝ }
 {
     let mut i = 0;
     while i < s.len() {
@@ -56,7 +57,7 @@ pub fn clear(s: &mut [u8])
 // Puts the piece before the bytes of s, which move up; the last ones, as many as the piece has, are lost.
 fn insert_front(s: &mut [u8], piece: &[u8])
     requires { ⌜ length (now piece) ≤ length (now s) ⌝ }
-    ensures { λ _. ⌜ now (s .exit) ≡ now (piece .entry) ++ take (length (now (s .entry)) - length (now (piece .entry))) (now (s .entry)) ⌝ }
+    ensures { λ _. ⌜ after s ≡ before piece ++ take (length (before s) - length (before piece)) (before s) ⌝ }
 {
     shift_up(s, piece.len());
     bytes::copy(piece, s);
@@ -65,7 +66,7 @@ fn insert_front(s: &mut [u8], piece: &[u8])
 // Inserts a piece at a place of the first `used` bytes; what follows it there moves up, and the rest keeps its values.
 pub fn insert_piece(s: &mut [u8], used: usize, at: usize, piece: &[u8])
     requires { ⌜ (at ≤ used) × (used + length (now piece) ≤ length (now s)) ⌝ }
-    ensures { λ _. ⌜ now (s .exit) ≡ insertedAt (now (s .entry)) used at (now (piece .entry)) ⌝ }
+    ensures { λ _. ⌜ after s ≡ insertedAt (before s) used at (before piece) ⌝ }
 {
     let end = used + piece.len();
     insert_front(&mut s[at..end], piece);

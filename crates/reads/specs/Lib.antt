@@ -1,2 +1,2 @@
--- Reads: what listing and lookup count on, and what a listing gives.
+-- Reads: what the calls that only read count on, and what a listing gives.
 pub mod Reads

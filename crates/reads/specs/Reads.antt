@@ -1,4 +1,4 @@
--- What a listing and a lookup count on, and what a listing gives, over the parts of a state. n is the length of the set's name.
+-- What the calls that only read count on, and what a listing gives, over the parts of a state. n is the length of the set's name.
 use Prim.Native.Nat.{ℕ, _*_, _≤_}
 use denote.Ref.{RefT}
 use mathlib.Core.Bool.{Bool, true, not, cond}

@@ -1,6 +1,7 @@
 // The calls that only read: listing and lookup.
 ghost use mathlib.Core.Path.{_≡_};
 ghost use mathlib.Core.Bool.{false};
+ghost use Rattle.wire.specs.Loans.{before, after};
 ghost use Rattle.dots.specs.Answer.{firstOf, numberOf};
 ghost use Rattle.listing.specs.Listing.{keyLines};
 ghost use Rattle.steps.specs.Tests.{earlyRefusals};
@@ -14,7 +15,7 @@ ghost use Rattle.reads.specs.Reads.{ListableKeys, Readable, linesIn, Lis
 // Lists keys end to end: refusal 13, or their lines put out.
 fn list_keys(n: usize, keys: &[u8], tombstone: &[u8], out: &mut [u8]) -> calls::Listed
     requires { ⌜ ListableKeys n (now keys) (now tombstone) ⌝ }
-    ensures { λ r. ⌜ ListsLines (keyLines n (now (keys .entry)) (now (tombstone .entry))) (now (out .entry)) (now (out .exit)) r ⌝ }
+    ensures { λ r. ⌜ ListsLines (keyLines n (before keys) (before tombstone)) (before out) (after out) r ⌝ }
 {
     let mut slots = [0u8; slots::SLOTS];
     slots::fill_slots(tombstone, &mut slots);
@@ -46,7 +47,7 @@ fn list_used(
     out: &mut [u8],
 ) -> calls::Listed
     requires { ⌜ Readable n used count (now store) (now tombstone) ⌝ }
-    ensures { λ r. ⌜ ListsLines (linesIn n used count (now (store .entry)) (now (tombstone .entry))) (now (out .entry)) (now (out .exit)) r ⌝ }
+    ensures { λ r. ⌜ ListsLines (linesIn n used count (before store) (before tombstone)) (before out) (after out) r ⌝ }
 {
     let size = count * dots::DOT_SIZE;
     list_keys(n, &store[..used], &tombstone[..size], out)
@@ -54,7 +55,7 @@ fn list_used(
 
 // Lists the labels.
 pub fn list(state: calls::State, store: &[u8], out: &mut [u8]) -> calls::Listed
-    ensures { λ r. ⌜ Lists (listResult state (now (store .entry)) (now (out .entry))) (now (out .exit)) r ⌝ }
+    ensures { λ r. ⌜ Lists (listResult state (before store) (before out)) (after out) r ⌝ }
 {
     let head = judging::head_of(state);
     if judging::damaged(head, &state.clock.words, &state.tombstone.bytes, store) {
@@ -83,7 +84,7 @@ fn used_stretch<'a, 'b>(
     low: usize,
 ) -> &'a [u8]
     requires { ⌜ Searchable (now store) used (now name) len (now label) low ⌝ }
-    ensures { λ r. ⌜ IsStretch (store .entry) used (now (name .entry)) len (now (label .entry)) r ⌝ }
+    ensures { λ r. ⌜ IsStretch (store .entry) used (before name) len (before label) r ⌝ }
 {
     store::stretch(&store[..used], &name[..len], label, low)
 }
@@ -91,7 +92,7 @@ fn used_stretch<'a, 'b>(
 // Whether some key's dot is not in the tombstone.
 fn any_listed(n: usize, keys: &[u8], tombstone: calls::Tombstone) -> bool
     requires { ⌜ LiveTestable n (now keys) tombstone ⌝ }
-    ensures { λ r. ⌜ r ≡ anyLive n (now (keys .entry)) tombstone ⌝ }
+    ensures { λ r. ⌜ r ≡ anyLive n (before keys) tombstone ⌝ }
 {
     let bytes = tombstone.bytes;
     let size = tombstone.count * dots::DOT_SIZE;
@@ -100,7 +101,7 @@ fn any_listed(n: usize, keys: &[u8], tombstone: calls::Tombstone) -> bool
 
 // The number of the first refusal of a lookup that holds, else 0. `damage` is refusal 1.
 fn lookup_number(damage: bool, label: &[u8]) -> u8
-    ensures { λ r. ⌜ r ≡ numberOf (firstOf (earlyRefusals damage (badLabel (now (label .entry))) false false false)) ⌝ }
+    ensures { λ r. ⌜ r ≡ numberOf (firstOf (earlyRefusals damage (badLabel (before label)) false false false)) ⌝ }
 {
     let labelled = dots::label_ok(label);
     dots::number_of(steps::early_answer(damage, !labelled, false, false, false))
@@ -114,7 +115,7 @@ pub fn lookup<'a>(
     number: &mut u8,
     listed: &mut bool,
 ) -> &'a [u8]
-    ensures { λ r. ⌜ LooksUp state (store .entry) (now (label .entry)) (now (number .exit)) (now (listed .exit)) r ⌝ }
+    ensures { λ r. ⌜ LooksUp state (store .entry) (before label) (after number) (after listed) r ⌝ }
 {
     let head = judging::head_of(state);
     let judged = judging::judge(

@@ -2,6 +2,7 @@
 ghost use mathlib.Core.Path.{_≡_};
 ghost use Prim.Native.Nat.{_+_, _≤_, min};
 ghost use lib.ListN.{length, take, drop};
+ghost use Rattle.wire.specs.Loans.{before};
 ghost use Rattle.wire.specs.Lists.{isLt};
 ghost use Rattle.wire.specs.Bytes.{partAt, compareBytes, littleEndian, zeroAt, startsWith};
 
@@ -17,7 +18,7 @@ fn smaller(a: usize, b: usize) -> usize
 // Whether a comes before b from a place on.
 fn lower_from(a: &[u8], b: &[u8], from: usize) -> bool
     requires { ⌜ (from ≤ length (now a)) × (from ≤ length (now b)) ⌝ }
-    ensures { λ r. ⌜ r ≡ isLt (compareBytes (drop from (now (a .entry))) (drop from (now (b .entry)))) ⌝ }
+    ensures { λ r. ⌜ r ≡ isLt (compareBytes (drop from (before a)) (drop from (before b))) ⌝ }
 {
     let mut i = from;
     while i < a.len() {
@@ -37,7 +38,7 @@ fn lower_from(a: &[u8], b: &[u8], from: usize) -> bool
 // Whether a comes before b, where the first 8 bytes are the same and n is the shorter length: by words, the last of which ends at n.
 fn lower_words(a: &[u8], b: &[u8], n: usize) -> bool
     requires { ⌜ ((8 ≤ n) × (n ≡ min (length (now a)) (length (now b)))) × (take 8 (now a) ≡ take 8 (now b)) ⌝ }
-    ensures { λ r. ⌜ r ≡ isLt (compareBytes (now (a .entry)) (now (b .entry))) ⌝ }
+    ensures { λ r. ⌜ r ≡ isLt (compareBytes (before a) (before b)) ⌝ }
 {
     let mut i = 8;
     while i + 8 <= n {
@@ -58,7 +59,7 @@ fn lower_words(a: &[u8], b: &[u8], n: usize) -> bool
 
 // Whether a comes before b in byte order. The first word is looked at apart: most labels differ there.
 pub fn lower(a: &[u8], b: &[u8]) -> bool
-    ensures { λ r. ⌜ r ≡ isLt (compareBytes (now (a .entry)) (now (b .entry))) ⌝ }
+    ensures { λ r. ⌜ r ≡ isLt (compareBytes (before a) (before b)) ⌝ }
 {
     let n = smaller(a.len(), b.len());
     if n < 8 {
@@ -83,7 +84,7 @@ pub fn first_zero(w: u64) -> usize
 // The index of the first 0 of s from a place on, or the length of s.
 fn zero_from(s: &[u8], from: usize) -> usize
     requires { ⌜ from ≤ length (now s) ⌝ }
-    ensures { λ r. ⌜ (r ≡ from + zeroAt (drop from (now (s .entry)))) × (r ≤ length (now (s .entry))) ⌝ }
+    ensures { λ r. ⌜ (r ≡ from + zeroAt (drop from (before s))) × (r ≤ length (before s)) ⌝ }
 {
     let mut i = from;
     while i < s.len() {
@@ -98,7 +99,7 @@ fn zero_from(s: &[u8], from: usize) -> usize
 // The index of the first 0 of s from a place on, or the length of s: by words, the last bytes one by one.
 fn zero_after(s: &[u8], from: usize) -> usize
     requires { ⌜ from ≤ length (now s) ⌝ }
-    ensures { λ r. ⌜ (r ≡ from + zeroAt (drop from (now (s .entry)))) × (r ≤ length (now (s .entry))) ⌝ }
+    ensures { λ r. ⌜ (r ≡ from + zeroAt (drop from (before s))) × (r ≤ length (before s)) ⌝ }
 {
     let mut i = from;
     while i + 8 <= s.len() {
@@ -113,7 +114,7 @@ fn zero_after(s: &[u8], from: usize) -> usize
 
 // The index of the first 0 of s, or its length. The first word is looked at apart: most labels end there.
 pub fn zero_at(s: &[u8]) -> usize
-    ensures { λ r. ⌜ (r ≡ zeroAt (now (s .entry))) × (r ≤ length (now (s .entry))) ⌝ }
+    ensures { λ r. ⌜ (r ≡ zeroAt (before s)) × (r ≤ length (before s)) ⌝ }
 {
     if s.len() < 8 {
         return zero_from(s, 0);
@@ -128,7 +129,7 @@ pub fn zero_at(s: &[u8]) -> usize
 // Whether s, which is no shorter than a, begins with a from a place on.
 fn starts_from(a: &[u8], s: &[u8], from: usize) -> bool
     requires { ⌜ (from ≤ length (now a)) × (length (now a) ≤ length (now s)) ⌝ }
-    ensures { λ r. ⌜ r ≡ startsWith (drop from (now (a .entry))) (drop from (now (s .entry))) ⌝ }
+    ensures { λ r. ⌜ r ≡ startsWith (drop from (before a)) (drop from (before s)) ⌝ }
 {
     let mut i = from;
     while i < a.len() {
@@ -143,7 +144,7 @@ fn starts_from(a: &[u8], s: &[u8], from: usize) -> bool
 // Whether the 4 bytes from a place on are the same in a and s.
 fn same_half(a: &[u8], s: &[u8], at: usize) -> bool
     requires { ⌜ (at + 4 ≤ length (now a)) × (at + 4 ≤ length (now s)) ⌝ }
-    ensures { λ r. ⌜ r ≡ startsWith (partAt (now (a .entry)) at 4) (drop at (now (s .entry))) ⌝ }
+    ensures { λ r. ⌜ r ≡ startsWith (partAt (before a) at 4) (drop at (before s)) ⌝ }
 {
     wire::low_half_at(s, at) == wire::low_half_at(a, at)
 }
@@ -151,7 +152,7 @@ fn same_half(a: &[u8], s: &[u8], at: usize) -> bool
 // Whether the 8 bytes from a place on are the same in a and s.
 fn same_word(a: &[u8], s: &[u8], at: usize) -> bool
     requires { ⌜ (at + 8 ≤ length (now a)) × (at + 8 ≤ length (now s)) ⌝ }
-    ensures { λ r. ⌜ r ≡ startsWith (partAt (now (a .entry)) at 8) (drop at (now (s .entry))) ⌝ }
+    ensures { λ r. ⌜ r ≡ startsWith (partAt (before a) at 8) (drop at (before s)) ⌝ }
 {
     wire::low_at(s, at) == wire::low_at(a, at)
 }
@@ -159,7 +160,7 @@ fn same_word(a: &[u8], s: &[u8], at: usize) -> bool
 // Whether s, which is no shorter, begins with a of 8 bytes or more: by words, the last of which ends with a.
 fn starts_words(a: &[u8], s: &[u8]) -> bool
     requires { ⌜ (8 ≤ length (now a)) × (length (now a) ≤ length (now s)) ⌝ }
-    ensures { λ r. ⌜ r ≡ startsWith (now (a .entry)) (now (s .entry)) ⌝ }
+    ensures { λ r. ⌜ r ≡ startsWith (before a) (before s) ⌝ }
 {
     let n = a.len();
     let mut i = 0;
@@ -174,7 +175,7 @@ fn starts_words(a: &[u8], s: &[u8]) -> bool
 
 // Whether s begins with a. What is asked is short, so up to 24 bytes go with no loop, by pieces that may overlap.
 pub fn starts_with(a: &[u8], s: &[u8]) -> bool
-    ensures { λ r. ⌜ r ≡ startsWith (now (a .entry)) (now (s .entry)) ⌝ }
+    ensures { λ r. ⌜ r ≡ startsWith (before a) (before s) ⌝ }
 {
     let n = a.len();
     if s.len() < n {

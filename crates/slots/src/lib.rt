@@ -3,6 +3,7 @@ ghost use mathlib.Core.Path.{_≡_};
 ghost use mathlib.Core.Bool.{true};
 ghost use Prim.Native.Nat.{_<_};
 ghost use lib.ListN.{length};
+ghost use Rattle.wire.specs.Loans.{before, after};
 ghost use Rattle.wire.specs.Lists.{member};
 ghost use Rattle.dots.specs.Dots.{compareDots, ascendingDots};
 ghost use Rattle.dots.specs.Wire.{dotsOf};
@@ -27,7 +28,7 @@ fn slot_of(dot: dots::Dot) -> usize
 // Sets the slots of all dots, nine bytes each.
 pub fn fill_slots(dots: &[u8], slots: &mut Slots)
     requires { ⌜ length (now slots) ≡ slotCount ⌝ }
-    ensures { λ _. ⌜ Slotted (dotsOf (now (dots .entry))) (now (slots .exit)) ⌝ }
+    ensures { λ _. ⌜ Slotted (dotsOf (before dots)) (after slots) ⌝ }
 {
     let n = dots.len() / dots::DOT_SIZE;
     let mut i: usize = 0;
@@ -42,7 +43,7 @@ pub fn fill_slots(dots: &[u8], slots: &mut Slots)
 // Whether the dot is one of the ascending dots, whose slots are set.
 pub fn holds_slotted(dots: &[u8], slots: &Slots, dot: dots::Dot) -> bool
     requires { ⌜ (ascendingDots (dotsOf (now dots)) ≡ true) × Slotted (dotsOf (now dots)) (now slots) ⌝ }
-    ensures { λ r. ⌜ r ≡ member compareDots dot (dotsOf (now (dots .entry))) ⌝ }
+    ensures { λ r. ⌜ r ≡ member compareDots dot (dotsOf (before dots)) ⌝ }
 {
     let at = slot_of(dot);
     if slots[at] == 0 {

@@ -3,6 +3,7 @@ ghost use mathlib.Core.Path.{_≡_};
 ghost use mathlib.Core.Bool.{true, not, cond};
 ghost use Prim.Native.Nat.{_+_, _-_, _≤_, _<_};
 ghost use lib.ListN.{length, take};
+ghost use Rattle.wire.specs.Loans.{before, after};
 ghost use Rattle.wire.specs.Lists.{isLt};
 ghost use Rattle.wire.specs.Bytes.{compareBytes, numberAt, startsWith, putAt};
 ghost use Rattle.dots.specs.Names.{nameOk, labelOk, nameMost};
@@ -66,7 +67,7 @@ pub fn front_of(judgement: Judgement) -> usize
 // Puts what the label keys of a set begin with at the front of out. Returns its length.
 fn put_prefix(out: &mut [u8], name: &[u8]) -> usize
     requires { ⌜ length (now name) + prefixFixed ≤ length (now out) ⌝ }
-    ensures { λ r. ⌜ (r ≡ length (now (name .entry)) + prefixFixed) × (now (out .exit) ≡ putAt (now (out .entry)) 0 (prefix (now (name .entry)))) ⌝ }
+    ensures { λ r. ⌜ (r ≡ length (before name) + prefixFixed) × (after out ≡ putAt (before out) 0 (prefix (before name))) ⌝ }
 {
     let head = [2, 1];
     let next = moves::put(out, 0, &head);
@@ -84,7 +85,7 @@ fn first_eight(n: usize) -> usize
 
 // The number in the first 8 bytes of a label, with 0s after a shorter one.
 fn label_number(label: &[u8]) -> u64
-    ensures { λ r. ⌜ r ≡ labelNumber (now (label .entry)) ⌝ }
+    ensures { λ r. ⌜ r ≡ labelNumber (before label) ⌝ }
 {
     let mut bytes = [0u8; 8];
     let k = first_eight(label.len());
@@ -94,7 +95,7 @@ fn label_number(label: &[u8]) -> u64
 
 // How long label, 00, actor, 00 and counter are at the front of what follows a prefix, if they keep their rules and the dot is seen; else 0.
 fn after_length(words: &clock::Words, t: &[u8]) -> usize
-    ensures { λ r. ⌜ r ≡ afterLength (now (words .entry)) (now (t .entry)) ⌝ }
+    ensures { λ r. ⌜ r ≡ afterLength (before words) (before t) ⌝ }
 {
     let n = search::zero_at(t);
     if t.len() < n + keys::SUFFIX_SIZE {
@@ -124,7 +125,7 @@ fn after_length(words: &clock::Words, t: &[u8]) -> usize
 // How long the key at the front is, if it is a label key of the set whose dot is seen; else 0. `start` is what the set's keys begin with.
 fn front_length(name: &[u8], start: &[u8], words: &clock::Words, s: &[u8]) -> usize
     requires { ⌜ (nameOk (now name) ≡ true) × (now start ≡ prefix (now name)) ⌝ }
-    ensures { λ r. ⌜ r ≡ frontLength (now (name .entry)) (now (words .entry)) (now (s .entry)) ⌝ }
+    ensures { λ r. ⌜ r ≡ frontLength (before name) (before words) (before s) ⌝ }
 {
     if !search::starts_with(start, s) {
         return 0;
@@ -147,7 +148,7 @@ fn pick(first: bool, a: u64, b: u64) -> u64
 // Whether a tail comes before another. The numbers in the first 8 bytes and in the next 4 of both decide unless they are equal.
 fn ascends(keys: &[u8], last: KeyTail, next: KeyTail) -> bool
     requires { ⌜ TailIn (now keys) last × (TailIn (now keys) next × (next .from < next .end)) ⌝ }
-    ensures { λ r. ⌜ r ≡ isLt (compareBytes (tailOf (now (keys .entry)) last) (tailOf (now (keys .entry)) next)) ⌝ }
+    ensures { λ r. ⌜ r ≡ isLt (compareBytes (tailOf (before keys) last) (tailOf (before keys) next)) ⌝ }
 {
     let same = last.word == next.word;
     let low = pick(same, last.half, last.word);
@@ -179,7 +180,7 @@ fn judge_keys(
     label: &[u8],
 ) -> Judgement
     requires { ⌜ (nameOk (now name) ≡ true) × (now start ≡ prefix (now name)) ⌝ }
-    ensures { λ r. ⌜ KeysJudged (now (name .entry)) (now (words .entry)) (now (keys .entry)) (now (label .entry)) r ⌝ }
+    ensures { λ r. ⌜ KeysJudged (before name) (before words) (before keys) (before label) r ⌝ }
 {
     let wanted = label_number(label);
     let mut last = KeyTail {
@@ -222,7 +223,7 @@ pub fn judge(
     label: &[u8],
 ) -> Judgement
     requires { ⌜ nameOk (now name) ≡ true ⌝ }
-    ensures { λ r. ⌜ StoreJudged (now (name .entry)) (now (words .entry)) (now (store .entry)) used (now (label .entry)) r ⌝ }
+    ensures { λ r. ⌜ StoreJudged (before name) (before words) (before store) used (before label) r ⌝ }
 {
     if STORE_MOST < store.len() {
         return Judgement::Damaged;
@@ -242,7 +243,7 @@ pub fn judge(
 // How long the key at the front of s is, by its label's closing 00; at most all of s.
 pub fn key_length(n: usize, s: &[u8]) -> usize
     requires { ⌜ n ≤ nameMost ⌝ }
-    ensures { λ r. ⌜ r ≡ keyLength n (now (s .entry)) ⌝ }
+    ensures { λ r. ⌜ r ≡ keyLength n (before s) ⌝ }
 {
     let at = n + keys::PREFIX_FIXED;
     if s.len() < at {
@@ -258,7 +259,7 @@ pub fn key_length(n: usize, s: &[u8]) -> usize
 // Where a key goes in keys end to end, the first `low` bytes of which come before it: raw bytes are compared, and nothing is decoded.
 fn place(n: usize, keys: &[u8], key: &[u8], low: usize) -> usize
     requires { ⌜ (n ≤ nameMost) × PlacePast n (now keys) (now key) low ⌝ }
-    ensures { λ r. ⌜ (r ≡ placeIn (now (key .entry)) (keysOf n (now (keys .entry)))) × (r ≤ length (now (keys .entry))) ⌝ }
+    ensures { λ r. ⌜ (r ≡ placeIn (before key) (keysOf n (before keys))) × (r ≤ length (before keys)) ⌝ }
 {
     let mut at = low;
     while at < keys.len() {
@@ -274,7 +275,7 @@ fn place(n: usize, keys: &[u8], key: &[u8], low: usize) -> usize
 // Whether a stored key comes before a key that begins with the same bytes up to `from`; wanted is the number in the key's next 8 bytes.
 fn comes_before(stored: &[u8], key: &[u8], from: usize, wanted: u64) -> bool
     requires { ⌜ (take from (now stored) ≡ take from (now key)) × (from + 8 ≤ length (now key)) × (wanted ≡ numberAt 8 (now key) from) ⌝ }
-    ensures { λ r. ⌜ r ≡ isLt (compareBytes (now (stored .entry)) (now (key .entry))) ⌝ }
+    ensures { λ r. ⌜ r ≡ isLt (compareBytes (before stored) (before key)) ⌝ }
 {
     if stored.len() < from + 8 {
         return search::lower(stored, key);
@@ -289,7 +290,7 @@ fn comes_before(stored: &[u8], key: &[u8], from: usize, wanted: u64) -> bool
 // Where a key goes in keys end to end, the first `low` bytes of which come before it, and the others of which all begin as it does up to the label: they are compared from there on.
 fn place_after(n: usize, keys: &[u8], key: &[u8], low: usize) -> usize
     requires { ⌜ (n ≤ nameMost) × PlaceAmongAlike n (now keys) (now key) low ⌝ }
-    ensures { λ r. ⌜ (r ≡ placeIn (now (key .entry)) (keysOf n (now (keys .entry)))) × (r ≤ length (now (keys .entry))) ⌝ }
+    ensures { λ r. ⌜ (r ≡ placeIn (before key) (keysOf n (before keys))) × (r ≤ length (before keys)) ⌝ }
 {
     let from = n + keys::PREFIX_FIXED;
     let wanted = wire::number_at(key, from);
@@ -307,7 +308,7 @@ fn place_after(n: usize, keys: &[u8], key: &[u8], low: usize) -> usize
 // Puts what the keys of a label begin with at the front of out. Returns its length.
 fn put_label_start(out: &mut [u8], name: &[u8], label: &[u8]) -> usize
     requires { ⌜ length (now name) + length (now label) + 5 ≤ length (now out) ⌝ }
-    ensures { λ r. ⌜ LabelStartPut (now (name .entry)) (now (label .entry)) (now (out .entry)) (now (out .exit)) r ⌝ }
+    ensures { λ r. ⌜ LabelStartPut (before name) (before label) (before out) (after out) r ⌝ }
 {
     let label_at = put_prefix(out, name);
     let end = moves::put(out, label_at, label);
@@ -318,7 +319,7 @@ fn put_label_start(out: &mut [u8], name: &[u8], label: &[u8]) -> usize
 // Puts the key of an entry at the front of out. Returns its length.
 fn put_key(out: &mut [u8], name: &[u8], label: &[u8], dot: dots::Dot) -> usize
     requires { ⌜ length (now name) + length (now label) + labelKeyFixed ≤ length (now out) ⌝ }
-    ensures { λ r. ⌜ KeyPut (now (name .entry)) (entry (now (label .entry)) dot) (now (out .entry)) (now (out .exit)) r ⌝ }
+    ensures { λ r. ⌜ KeyPut (before name) (entry (before label) dot) (before out) (after out) r ⌝ }
 {
     let at = put_label_start(out, name, label);
     let actor = [dot.actor.number, 0];
@@ -330,7 +331,7 @@ fn put_key(out: &mut [u8], name: &[u8], label: &[u8], dot: dots::Dot) -> usize
 // Puts a key in its place among the first `used` bytes, of which the first `low` come before it; those from there on move up.
 fn insert_key(store: &mut [u8], used: usize, n: usize, key: &[u8], low: usize)
     requires { ⌜ (n ≤ nameMost) × (used + length (now key) ≤ length (now store)) × PlaceAmongAlike n (take used (now store)) (now key) low ⌝ }
-    ensures { λ _. ⌜ now (store .exit) ≡ insertedKey n (now (store .entry)) used (now (key .entry)) ⌝ }
+    ensures { λ _. ⌜ after store ≡ insertedKey n (before store) used (before key) ⌝ }
 {
     let at = place_after(n, &store[..used], key, low);
     moves::insert_piece(store, used, at, key);
@@ -346,7 +347,7 @@ pub fn insert_entry(
     low: usize,
 ) -> usize
     requires { ⌜ EntryHasPlace (now name) (now label) (now store) used low ⌝ }
-    ensures { λ r. ⌜ EntryInserted (now (name .entry)) (entry (now (label .entry)) dot) used (now (store .entry)) (now (store .exit)) r ⌝ }
+    ensures { λ r. ⌜ EntryInserted (before name) (entry (before label) dot) used (before store) (after store) r ⌝ }
 {
     let mut key = [0; KEY_MOST];
     let len = put_key(&mut key, name, label, dot);
@@ -357,7 +358,7 @@ pub fn insert_entry(
 // How many bytes the keys at the front take that begin with `start`.
 fn run(n: usize, keys: &[u8], start: &[u8]) -> usize
     requires { ⌜ n ≤ nameMost ⌝ }
-    ensures { λ r. ⌜ (r ≡ lengthWhile (startsWith (now (start .entry))) (keysOf n (now (keys .entry)))) × (r ≤ length (now (keys .entry))) ⌝ }
+    ensures { λ r. ⌜ (r ≡ lengthWhile (startsWith (before start)) (keysOf n (before keys))) × (r ≤ length (before keys)) ⌝ }
 {
     let mut at = 0;
     while at < keys.len() {
@@ -373,7 +374,7 @@ fn run(n: usize, keys: &[u8], start: &[u8]) -> usize
 // The very stretch of the keys that begin with `start`, from its place on.
 fn stretch_from<'a, 'b>(n: usize, keys: &'a [u8], start: &'b [u8], low: usize) -> &'a [u8]
     requires { ⌜ (n ≤ nameMost) × PlacePast n (now keys) (now start) low ⌝ }
-    ensures { λ r. ⌜ IsStretchFrom n (keys .entry) (now (start .entry)) r ⌝ }
+    ensures { λ r. ⌜ IsStretchFrom n (keys .entry) (before start) r ⌝ }
 {
     let at = place(n, keys, start, low);
     let end = at + run(n, &keys[at..], start);
@@ -383,7 +384,7 @@ fn stretch_from<'a, 'b>(n: usize, keys: &'a [u8], start: &'b [u8], low: usize) -
 // The very stretch of the keys of a label, which is not among the first `low` bytes; the empty one at the place they would go if there are none.
 pub fn stretch<'a, 'b>(keys: &'a [u8], name: &'b [u8], label: &'b [u8], low: usize) -> &'a [u8]
     requires { ⌜ (nameOk (now name) ≡ true) × (labelOk (now label) ≡ true) × LabelPassed (now name) (now label) (now keys) low ⌝ }
-    ensures { λ r. ⌜ IsStretch (now (name .entry)) (now (label .entry)) (keys .entry) r ⌝ }
+    ensures { λ r. ⌜ IsStretch (before name) (before label) (keys .entry) r ⌝ }
 {
     let mut start = [0; LABEL_START_MOST];
     let len = put_label_start(&mut start, name, label);
@@ -395,7 +396,7 @@ pub fn stretch<'a, 'b>(keys: &'a [u8], name: &'b [u8], label: &'b [u8], low: usi
 // The dot of a key.
 pub fn key_dot(key: &[u8]) -> dots::Dot
     requires { ⌜ suffixSize - 1 ≤ length (now key) ⌝ }
-    ensures { λ r. ⌜ r ≡ keyDot (now (key .entry)) ⌝ }
+    ensures { λ r. ⌜ r ≡ keyDot (before key) ⌝ }
 {
     let actor = key[key.len() - DOT_TAIL];
     let counter = wire::number_at(key, key.len() - 8);

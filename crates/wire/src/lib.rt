@@ -2,6 +2,7 @@
 ghost use mathlib.Core.Path.{_≡_};
 ghost use Prim.Native.Nat.{_+_, _^_, _≤_, _<_};
 ghost use lib.ListN.{length};
+ghost use Rattle.wire.specs.Loans.{before};
 ghost use Rattle.wire.specs.Bytes.{byteAt, partAt, numberAt, bigEndian, fromBigEndian, lowNumberAt, littleEndian};
 
 // A stretch of bytes: its first place and its length.
@@ -14,7 +15,7 @@ pub struct Span {
 
 // The byte at a place, and 0 past the end.
 pub fn byte_at(s: &[u8], at: usize) -> u8
-    ensures { λ r. ⌜ r ≡ byteAt (now (s .entry)) at ⌝ }
+    ensures { λ r. ⌜ r ≡ byteAt (before s) at ⌝ }
 {
     if at < s.len() {
         return s[at];
@@ -31,7 +32,7 @@ fn size_of(b: u8) -> usize
 
 // The byte at a place as a size.
 pub fn size_at(s: &[u8], at: usize) -> usize
-    ensures { λ r. ⌜ (r ≡ byteAt (now (s .entry)) at) × (r < 256) ⌝ }
+    ensures { λ r. ⌜ (r ≡ byteAt (before s) at) × (r < 256) ⌝ }
 {
     size_of(byte_at(s, at))
 }
@@ -39,7 +40,7 @@ pub fn size_at(s: &[u8], at: usize) -> usize
 // The bytes from a place on, at most `len` of them.
 pub fn part<'a>(s: &'a [u8], at: usize, len: usize) -> &'a [u8]
     requires { ⌜ (at ≤ 4096) × (len ≤ 4096) ⌝ }
-    ensures { λ r. ⌜ now r ≡ partAt (now (s .entry)) at len ⌝ }
+    ensures { λ r. ⌜ now r ≡ partAt (before s) at len ⌝ }
 {
     if s.len() < at {
         return &s[0..0];
@@ -63,7 +64,7 @@ fn wide(b: u8) -> u64
 // The word in the 4 bytes from a place on.
 pub fn low_half_at(s: &[u8], at: usize) -> u64
     requires { ⌜ at + 4 ≤ length (now s) ⌝ }
-    ensures { λ r. ⌜ (r ≡ lowNumberAt 4 (now (s .entry)) at) × (r < 2 ^ 32) ⌝ }
+    ensures { λ r. ⌜ (r ≡ lowNumberAt 4 (before s) at) × (r < 2 ^ 32) ⌝ }
 {
     ((wide(s[at + 3]) * 256 + wide(s[at + 2])) * 256 + wide(s[at + 1])) * 256 + wide(s[at])
 }
@@ -71,7 +72,7 @@ pub fn low_half_at(s: &[u8], at: usize) -> u64
 // The word in the 8 bytes from a place on.
 pub fn low_at(s: &[u8], at: usize) -> u64
     requires { ⌜ at + 8 ≤ length (now s) ⌝ }
-    ensures { λ r. ⌜ r ≡ lowNumberAt 8 (now (s .entry)) at ⌝ }
+    ensures { λ r. ⌜ r ≡ lowNumberAt 8 (before s) at ⌝ }
 {
     low_half_at(s, at + 4) * 4294967296 + low_half_at(s, at)
 }
@@ -95,7 +96,7 @@ fn swapped(w: u64) -> u64
 // The number in the 4 bytes from a place on.
 pub fn half_at(s: &[u8], at: usize) -> u64
     requires { ⌜ at + 4 ≤ length (now s) ⌝ }
-    ensures { λ r. ⌜ (r ≡ numberAt 4 (now (s .entry)) at) × (r < 2 ^ 32) ⌝ }
+    ensures { λ r. ⌜ (r ≡ numberAt 4 (before s) at) × (r < 2 ^ 32) ⌝ }
 {
     ((wide(s[at]) * 256 + wide(s[at + 1])) * 256 + wide(s[at + 2])) * 256 + wide(s[at + 3])
 }
@@ -103,7 +104,7 @@ pub fn half_at(s: &[u8], at: usize) -> u64
 // The number in the 8 bytes from a place on.
 pub fn number_at(s: &[u8], at: usize) -> u64
     requires { ⌜ at + 8 ≤ length (now s) ⌝ }
-    ensures { λ r. ⌜ r ≡ numberAt 8 (now (s .entry)) at ⌝ }
+    ensures { λ r. ⌜ r ≡ numberAt 8 (before s) at ⌝ }
 {
     swapped(low_at(s, at))
 }

@@ -24,4 +24,4 @@ pub use block::Block;
 pub use calls::{compact, own_add, own_remove, set_up, take_in, Wrote};
 pub use keys::{read_key, write_key, KeyRead};
 pub use message::{read_message, MessageRead};
-pub use reading::{list, lookup, Listed, Looked};
+pub use reading::*;

@@ -1,4 +1,4 @@
-//! A controller: its state and the store that it is lent, with the seven calls.
+//! A controller: its state and the store that it is lent, with the calls.
 
 use crate::answer::Answer;
 use crate::calls;

@@ -1,6 +1,6 @@
 //! The label set of a pick-to-light controller: a safe wrapper over its static library.
 //!
-//! `Controller` is a state with its store and the seven calls in Rust's own types; `formats`
+//! `Controller` is a state with its store and the calls in Rust's own types; `formats`
 //! reads and writes keys and messages. Below them, `calls` has every function of the library
 //! on plain bytes and numbers, with the state as a value apart from the store lent to it.
 //! `limits` has every limit and size.

@@ -1,4 +1,4 @@
-//! "What each call does": the seven calls on bytes. Each reads the values, works out the
+//! "What each call does": the calls on bytes. Each reads the values, works out the
 //! answer in the table's order, and only then writes state, store and output.
 
 use crate::answer::*;

@@ -17,8 +17,7 @@ mod message;
 mod rule;
 
 pub use answer::*;
-pub use calls::{compact, list, lookup, own_add, own_remove, set_up, take_in};
-pub use calls::{Listed, Looked, Outcome};
+pub use calls::*;
 pub use dot::{read_context, read_dots, Actor, Counter, Dot};
 pub use held::State;
 pub use keys::{read_key, write_key, KeyKind, KeyRead};

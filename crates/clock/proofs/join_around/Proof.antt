@@ -14,10 +14,10 @@ abbrev words : tie.Start → List ℕ
 words c = c .args .words .now
 
 abbrev xs : tie.Start → List Dot
-xs c = dotsOf (c .args .before .now)
+xs c = dotsOf (c .args .lower .now)
 
 abbrev ys : tie.Start → List Dot
-ys c = dotsOf (c .args .after .now)
+ys c = dotsOf (c .args .higher .now)
 
 join-dots-requires : tie.Need-join-dots-requires
 join-dots-requires c κs = let start = c .before .before .before in ready-front windowWidth (words start) (xs start) (start .args .dot ∷ ys start) (start .pre)

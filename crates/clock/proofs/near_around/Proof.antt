@@ -27,8 +27,8 @@ returns : tie.Need-returns
 returns c =
     let start = c .before .before .before .before .before .before in
     let words = start .args .words .now in
-    let xs = dotsOf (start .args .before .now) in
-    let ys = dotsOf (start .args .after .now) in
+    let xs = dotsOf (start .args .lower .now) in
+    let ys = dotsOf (start .args .higher .now) in
     let first = c .before .before .reach-dots .ensures .0 ∙ ap (λ (x : Reach). reachEach windowWidth words x xs) (c .before .before .before .reach-start .ensures) in
     let whole = reach-around windowWidth words xs (start .args .dot) ys _ _ _ first (c .before .reach-step .ensures .0) (c .reach-dots2 .ensures .0) in
     ap (λ (x : Reach). x .ok) whole ∙ offer-near windowWidth (omega arith) words (xs ++ (start .args .dot ∷ ys)) (start .pre)
