@@ -13,10 +13,11 @@ use lines::parse::Line;
 use lines::parts;
 use lines::print;
 ghost use Prim.Native.Nat.{_<_};
+ghost use Rattle.dots.specs.Dots.{actorMost};
 
 // Row number i of the clock in a block, unless it is zero. Returns 1 if a row is printed by now.
 fn row(state: &[u8], i: usize, printed: usize) -> usize
-    requires { ⌜ i < 16 ⌝ }
+    requires { ⌜ i < actorMost ⌝ }
 {
     let at = CLOCK_AT + i * ROW_SIZE;
     let base = parts::number_at(state, at);

@@ -3,6 +3,7 @@ use crate::limits::OUT_FILL;
 use crate::parts;
 ghost use Prim.Native.Nat.{_+_, _*_, _<_, _≤_};
 ghost use lib.ListN.{length};
+ghost use Rattle.dots.specs.Wire.{dotSize};
 
 pub fn text(s: &[u8]) {
     io::write_all(1, s);
@@ -71,7 +72,7 @@ pub fn joined(later: usize, n: u64) {
 
 // Dot number i of a list.
 fn dot(s: &[u8], i: usize)
-    requires { ⌜ i * 9 + 9 ≤ length (now s) ⌝ }
+    requires { ⌜ i * dotSize + dotSize ≤ length (now s) ⌝ }
 {
     let dot = dots::dot_at(s, i * dots::DOT_SIZE);
     joined(parts::least(i, 1), dot.actor.number as u64);
