@@ -17,13 +17,13 @@ ghost use Rattle.judging.specs.Judging.{isSetName, isTombstone, stateOk,
 fn all_zero(s: &[u8]) -> bool
     ensures { λ r. ⌜ r ≡ all (λ b. eqb b 0) (before s) ⌝ }
 {
-    let mut ok = true;
+    let mut bits = 0;
     let mut i = 0;
     while i < s.len() {
-        ok = ok & (s[i] == 0);
+        bits = bits | s[i];
         i += 1;
     }
-    ok
+    bits == 0
 }
 
 // Whether the clock sees every dot.
