@@ -76,7 +76,7 @@ pub fn lend(line: Line, state: &[u8], room: &mut [u8], length: usize) -> usize {
 }
 
 // The place in a block of what a poke sets. In the clock it is that of an actor, in the tombstone that of a slot.
-fn place(poke: usize, number: usize) -> usize {
+fn place(poke: u8, number: usize) -> usize {
     let row = (number % ROWS + ROWS - 1) % ROWS;
     match poke {
         parse::ACTOR => 0,

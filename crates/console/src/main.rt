@@ -53,8 +53,8 @@ fn run(line: Line, state: &mut [u8; STATE_SIZE], store: &mut [u8], args: &[u8], 
         parse::REMOVE => commands::remove(state, store, args, out),
         parse::TAKE => print::number(capi::ptl_take_in(state, store, args) as u64),
         parse::COMPACT => print::number(capi::ptl_compact(state, store) as u64),
-        0..=parse::STORE => look(line, state, store, args, out),
-        _ => bench::poke(line, state, store, args),
+        b'A'..=b'Z' => bench::poke(line, state, store, args),
+        _ => look(line, state, store, args, out),
     }
 }
 

@@ -7,51 +7,50 @@ use crate::limits::LINE_MAX;
 use crate::parts;
 use crate::why;
 
-// The commands: their places in the table of `read_command`. Those up to `COMPACT` may change state and store, those up to `STORE` do not; the
-// last nine are pokes.
-pub const SETUP: usize = 0;
+// The commands: a letter for each, which the table of `read_command` has beside its words. The capital letters are the pokes.
+pub const SETUP: u8 = b's';
 
-pub const ADD: usize = 1;
+pub const ADD: u8 = b'a';
 
-pub const REMOVE: usize = 2;
+pub const REMOVE: u8 = b'r';
 
-pub const TAKE: usize = 3;
+pub const TAKE: u8 = b't';
 
-pub const COMPACT: usize = 4;
+pub const COMPACT: u8 = b'c';
 
-pub const LIST: usize = 5;
+pub const LIST: u8 = b'l';
 
-pub const LOOKUP: usize = 6;
+pub const LOOKUP: u8 = b'u';
 
-pub const KEY: usize = 7;
+pub const KEY: u8 = b'k';
 
-pub const READ_KEY: usize = 8;
+pub const READ_KEY: u8 = b'y';
 
-pub const READ_MESSAGE: usize = 9;
+pub const READ_MESSAGE: u8 = b'm';
 
-pub const STATE: usize = 10;
+pub const STATE: u8 = b'e';
 
-pub const STORE: usize = 11;
+pub const STORE: u8 = b'o';
 
-pub const BUFFER: usize = 12;
+pub const BUFFER: u8 = b'b';
 
-pub const USED: usize = 13;
+pub const USED: u8 = b'U';
 
-pub const ACTOR: usize = 14;
+pub const ACTOR: u8 = b'A';
 
-pub const NAME: usize = 15;
+pub const NAME: u8 = b'N';
 
-pub const NAME_LENGTH: usize = 16;
+pub const NAME_LENGTH: u8 = b'L';
 
-pub const BASE: usize = 17;
+pub const BASE: u8 = b'B';
 
-pub const WINDOW: usize = 18;
+pub const WINDOW: u8 = b'W';
 
-pub const DOT: usize = 19;
+pub const DOT: u8 = b'D';
 
-pub const COUNT: usize = 20;
+pub const COUNT: u8 = b'C';
 
-pub const BYTE: usize = 21;
+pub const BYTE: u8 = b'Y';
 
 // A line: why it breaks the form, or 0, and in which field, or 0 for the whole line; its controller and its command; how many bytes of the
 // arguments its fields have. Of the first, the second and the last field the number, or the place in the arguments after its bytes; where a
@@ -60,7 +59,7 @@ pub struct Line {
     pub why: u8,
     pub field: usize,
     pub controller: usize,
-    pub command: usize,
+    pub command: u8,
     pub end: usize,
     pub first: usize,
     pub second: usize,
@@ -109,7 +108,7 @@ fn read_field(line: Line, i: usize, kind: u8, text: &[u8], args: &mut [u8; ARGUM
     next
 }
 
-// Reads the fields, and no more. Field i has kind i; kind 0 stands for the command's word.
+// Reads the fields, and no more. Field i has kind i; that of the command's word is the command.
 fn read_fields(kinds: &[u8], text: &[u8], args: &mut [u8; ARGUMENTS_MAX]) -> Line {
     let mut line = blank(0);
     let mut i = 1;
@@ -145,10 +144,10 @@ fn place_of(table: &[u8], text: &[u8]) -> usize {
     n
 }
 
-// Reads a command. The table has the words of each, and the kinds of the fields after its first word.
+// Reads a command. The table has the words of each, its letter, and the kinds of the fields after its first word.
 fn read_command(text: &[u8], args: &mut [u8; ARGUMENTS_MAX]) -> Line {
     let table =
-        b"setup:bT;add:TDo;remove:Do;take:H;compact:;list:o;lookup:T;key:kTTBNo;readkey:H;readmessage:H;state:;store:;buffer:lb;poke used:wN;poke actor:wB;poke name:wM;poke namelen:wN;poke base:wrN;poke window:wrN;poke dot:wsBN;poke count:wN;poke byte:wnB;poke:p";
+        b"setup:sbT;add:aTDo;remove:rDo;take:tH;compact:c;list:lo;lookup:uT;key:kkTTBNo;readkey:yH;readmessage:mH;state:e;store:o;buffer:blb;poke used:UwN;poke actor:AwB;poke name:NwM;poke namelen:LwN;poke base:BwrN;poke window:WwrN;poke dot:DwsBN;poke count:CwN;poke byte:YwnB;poke:?p";
     if text.len() == 0 {
         return blank(why::NO_WORD);
     }
@@ -157,9 +156,9 @@ fn read_command(text: &[u8], args: &mut [u8; ARGUMENTS_MAX]) -> Line {
     if entry.len() == 0 {
         return blank(why::NO_COMMAND);
     }
-    let kinds = parts::from(entry, parts::before(entry, b':').len());
+    let kinds = parts::after(entry, b':');
     let mut line = read_fields(kinds, text, args);
-    line.command = n;
+    line.command = wire::byte_at(kinds, 0);
     line
 }
 
