@@ -163,26 +163,15 @@ pub fn take_in(state: calls::State, store: &mut [u8], message: &[u8]) -> calls::
     let read = messages::read_message(message);
     let label = wire::part(message, read.label.at, read.label.len);
     let head = judging::head_of(state);
-    let judged = judging::judge(
-        head,
-        &state.clock.words,
-        &state.tombstone.bytes,
-        store,
-        label,
-    );
+    let words = &state.clock.words;
+    let tombstone = &state.tombstone.bytes;
+    let judged = judging::judge(head, words, tombstone, store, label);
     let lent = steps::Lent {
         store: store.len(),
         out: 0,
         damage: store::is_damage(judged),
     };
-    let answer = take_answer(
-        head,
-        &state.clock.words,
-        &state.tombstone.bytes,
-        message,
-        read,
-        lent,
-    );
+    let answer = take_answer(head, words, tombstone, message, read, lent);
     if dots::number_of(answer) != 0 {
         return calls::Outcome {
             answer: answer,

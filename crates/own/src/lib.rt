@@ -132,10 +132,7 @@ fn add_done(
             actor: actor,
             name: name,
             clock: clock::Clock { words: words },
-            tombstone: calls::Tombstone {
-                bytes: bytes,
-                count: count,
-            },
+            tombstone: calls::Tombstone { bytes, count },
             used: used,
         },
         written: written,

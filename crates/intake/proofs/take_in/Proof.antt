@@ -31,7 +31,7 @@ abbrev headed : tie.After-judge → tie.After-head-of
 headed c = c .before .before .before .before .before
 
 abbrev asked : tie.After-take-answer → tie.After-is-damage
-asked c = c .before .before .before .before
+asked c = c .before
 
 abbrev at-first : tie.After-take-answer → tie.After-head-of
 at-first c = headed (asked c .before)
@@ -75,10 +75,9 @@ is-damage-requires c κs = search needs
 
 take-answer-requires : tie.Need-take-answer-requires
 take-answer-requires c κs =
-    let e = c .before .before .before in
-    let h = headed (e .before) in
+    let h = headed (c .before) in
     let s = start h in
-    (h .before .before .read-message .ensures, from-head (s .args .t1) _ (h .head-of .ensures) (λ (x : State). Told x (lent e)) (record { store = s .args .store .now; sized = sizes s; size = refl; tells = told e }))
+    (h .before .before .read-message .ensures, from-head (s .args .t1) _ (h .head-of .ensures) (λ (x : State). Told x (lent c)) (record { store = s .args .store .now; sized = sizes s; size = refl; tells = told c }))
 
 number-of-requires : tie.Need-number-of-requires
 number-of-requires c κs = search needs
