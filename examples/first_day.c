@@ -1,5 +1,5 @@
-/* The first day of two controllers: cases A1, A2, R1 and C1 of document 01 through the C interface, every byte compared.
-   Exits 1 on the first difference.
+/* The first day of two controllers: cases A1, A2, R1 and C1 of document 01 through the C interface, every byte compared; and a listing read
+   in pages. Exits 1 on the first difference.
 
      cc -std=c99 -Iinclude -o first_day examples/first_day.c target/staticlib/libcapi.a
 */
@@ -39,6 +39,11 @@ static const uint8_t lists_1_1[] = {2, 0x42, 0x37, 0, 1, DOT(1, 1)};
 static const uint8_t lists_1_2[] = {2, 0x42, 0x37, 0, 1, DOT(1, 2)};
 static const uint8_t lists_both[] = {2, 0x42, 0x37, 0, 2, DOT(1, 1), DOT(2, 1)};
 static const uint8_t lists_2_1[] = {2, 0x42, 0x37, 0, 1, DOT(2, 1)};
+
+/* Adds of the labels A and C by actor 3, and the listing of these with the B7 of actor 2. */
+static const uint8_t add_a[] = {0x50, 0x54, 0x4C, 0, 1, 0x61, 2, 0x52, 0x31, 1, 0x41, DOT(3, 1), 0};
+static const uint8_t add_c[] = {0x50, 0x54, 0x4C, 0, 1, 0x61, 2, 0x52, 0x31, 1, 0x43, DOT(3, 2), 0};
+static const uint8_t lists_three[] = {1, 0x41, 0, 1, DOT(3, 1), 2, 0x42, 0x37, 0, 1, DOT(2, 1), 1, 0x43, 0, 1, DOT(3, 2)};
 
 static void expect_number(const char *what, uint64_t is, uint64_t must)
 {
@@ -113,6 +118,45 @@ static void lists(const struct controller *c, const uint8_t *listing, size_t lis
     expect_number("stretch's length", found.len, stretch);
 }
 
+/* The length of an entry: label length, label, number of dots, dots. */
+static size_t entry_length(const uint8_t *entry)
+{
+    const uint8_t *number = entry + 1 + entry[0];
+    return 1 + entry[0] + 2 + (size_t)(number[0] * 256 + number[1]) * PTL_DOT_SIZE;
+}
+
+/* Copies the label of the last entry of a page to start. Its length, 0 if there is no entry. */
+static size_t last_label(const uint8_t *page, size_t written, uint8_t *start)
+{
+    size_t last = 0;
+    for (size_t at = 0; at < written; at += entry_length(page + at)) {
+        last = at;
+    }
+    size_t length = written > 0 ? page[last] : 0;
+    memcpy(start, page + last + 1, length);
+    return length;
+}
+
+/* The listing in pages with room for a label or two: from the front, each after the last label of the one before, until none follows. */
+static void lists_in_pages(const struct controller *c, const uint8_t *listing, size_t listing_len, size_t labels)
+{
+    uint8_t page[27], start[PTL_LABEL_MAX], joined[PTL_MESSAGE_MAX];
+    size_t start_len = 0, joined_len = 0, listed = 0;
+    bool more = true;
+    while (more) {
+        size_t written, of_page;
+        uint8_t answer = ptl_page(c->state, sizeof c->state, c->store, sizeof c->store, start, start_len, page, sizeof page, &written,
+                                  &of_page, &more);
+        expect_number("page", answer, PTL_DONE);
+        memcpy(joined + joined_len, page, written);
+        joined_len += written;
+        listed += of_page;
+        start_len = last_label(page, written, start);
+    }
+    expect_bytes("pages joined", joined, joined_len, listing, listing_len);
+    expect_number("labels of all pages", listed, labels);
+}
+
 /* The used length; the tombstone's dots, zeros to its end, and behind them their number, which its last byte has room for. */
 static void holds(const struct controller *c, uint64_t used, const uint8_t *tombstone, size_t tombstone_len)
 {
@@ -162,6 +206,11 @@ int main(void)
     holds(&one, 38, dot_1_1, sizeof dot_1_1);
     lists(&one, lists_2_1, sizeof lists_2_1, 1, 38);
 
-    printf("A1, A2, R1 and C1 as in document 01\n");
+    /* Two more labels, and the listing in pages: A and B7 fill the first, C is on the second. */
+    take_in(&one, add_a, sizeof add_a);
+    take_in(&one, add_c, sizeof add_c);
+    lists_in_pages(&one, lists_three, sizeof lists_three, 3);
+
+    printf("A1, A2, R1 and C1 as in document 01; a listing in pages\n");
     return 0;
 }

@@ -61,8 +61,9 @@ static struct box {
 
 static uint8_t set_name[PTL_NAME_MAX], label[PTL_LABEL_MAX], context[PTL_CONTEXT_MAX];
 static uint8_t message[PTL_MESSAGE_MAX], key[PTL_KEY_MAX], listing[PTL_STORE_MAX];
-static size_t context_len, message_len, key_len, listing_room, written, labels, place, length;
+static size_t context_len, start_len, message_len, key_len, listing_room, written, labels, place, length;
 static uint8_t actor, answer, byte;
+static bool more;
 static uint64_t counter;
 
 static void nothing(void)
@@ -100,6 +101,12 @@ static void take_in(void)
 static void list(void)
 {
     answer = ptl_list(box->state, sizeof box->state, box->store, sizeof box->store, listing, listing_room, &written, &labels);
+}
+
+static void page(void)
+{
+    answer = ptl_page(box->state, sizeof box->state, box->store, sizeof box->store, label, start_len, listing, listing_room, &written,
+                      &labels, &more);
 }
 
 static void lookup(void)
@@ -142,6 +149,7 @@ static struct row {
     {"ptl_own_remove", own_remove, 0, 0, 0},
     {"ptl_take_in", take_in, 0, 0, 0},
     {"ptl_list", list, 0, 0, 0},
+    {"ptl_page", page, 0, 0, 0},
     {"ptl_lookup", lookup, 0, 0, 0},
     {"ptl_compact", compact, 0, 0, 0},
     {"ptl_write_key", write_key, 0, 0, 0},
@@ -219,7 +227,19 @@ static void removes(unsigned made)
     }
 }
 
-/* Calls that read: outputs with room for all, for what was listed and for nothing; labels that are there, and one that is not. */
+/* Pages after the first so many bytes of the label; after none is from the front. */
+static void pages(size_t at, size_t bytes)
+{
+    const size_t rooms[] = {sizeof listing, 512, 0};
+    start_len = bytes;
+    for (size_t i = 0; i < sizeof rooms / sizeof rooms[0]; i++) {
+        listing_room = rooms[i];
+        measure(at, page);
+    }
+}
+
+/* Calls that read: outputs with room for all, for what was listed, for a few labels and for nothing; labels that are there, and one that is
+   not. */
 static void reads(size_t at)
 {
     listing_room = sizeof listing;
@@ -229,8 +249,11 @@ static void reads(size_t at)
     listing_room = 0;
     measure(at, list);
     label_for(7);
+    pages(at, 0);
+    pages(at, sizeof label);
     measure(at, lookup);
     label_for(5000);
+    pages(at, sizeof label);
     measure(at, lookup);
 }
 

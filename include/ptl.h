@@ -35,7 +35,7 @@ typedef char ptl_size_t_has_8_bytes[sizeof(size_t) == 8 ? 1 : -1];
 
 /* The version of this interface: 100 * major + minor. A higher minor number adds functions and macros and keeps all that was there, the
    block too. Under another major number a function, a limit, a format or the block may be another: see docs/INTEGRATION.md, "Versions". */
-#define PTL_VERSION 100
+#define PTL_VERSION 101
 
 /* The version that the library has: PTL_VERSION of the header that goes with it. */
 uint32_t ptl_version(void);
@@ -157,6 +157,15 @@ uint8_t ptl_take_in(uint8_t *state, size_t state_len, uint8_t *store, size_t sto
    length in 1 byte, the label, the number of such dots in 2 bytes, highest first, and the dots, ascending. Answers 1, 13. */
 uint8_t ptl_list(const uint8_t *state, size_t state_len, const uint8_t *store, size_t store_len, uint8_t *out, size_t out_len,
                  size_t *written, size_t *labels);
+
+/* Lists a page: of what ptl_list lists, the entries of the labels after start, as many whole ones as fit in out: *labels labels in *written
+   bytes; *more becomes whether labels are left after them. start is the empty label, for the front of the listing, or any label; it need not
+   be in the store. For a whole listing begin with the empty one, go on after the last label of the page before, and stop when *more is false.
+   Every page speaks of the state that it finds. No label left is a page of no entry, accepted in an output of any length. Answers 1; 5 if
+   start is not empty and breaks the rule of a label; 13 if a label is left and the entry of the first one does not fit. On a refusal *more is
+   false. */
+uint8_t ptl_page(const uint8_t *state, size_t state_len, const uint8_t *store, size_t store_len, const uint8_t *start, size_t start_len,
+                 uint8_t *out, size_t out_len, size_t *written, size_t *labels, bool *more);
 
 /* A stretch of lent bytes. */
 struct ptl_bytes {

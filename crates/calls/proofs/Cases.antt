@@ -21,11 +21,12 @@ use Rattle.store.specs.Cut.{endToEnd, storeBytes, keyLength, keysAfter, keyLabe
 use Rattle.store.specs.Valid.{usedOk, storeOk}
 use Rattle.listing.specs.Listing.{listingBytes}
 use Rattle.replica.specs.Machine.{messagesOf, apply, compacted, listing, found, effect}
+use Rattle.replica.specs.Page.{fitting, firstFits}
 use Rattle.replica.specs.Rule.{countOwnAdd, historyFrom, ruleListing}
 use Rattle.calls.specs.State.{view}
 use Rattle.calls.specs.Damage.{stateNameOk, tombstoneOk, damaged}
 use Rattle.calls.specs.Effect.{stateOf, storeOf}
-use Rattle.calls.specs.Calls.{setUp, ownAddResult, ownRemoveResult, takeInResult, listResult, lookupResult, compactResult}
+use Rattle.calls.specs.Calls.{setUp, ownAddResult, ownRemoveResult, takeInResult, listResult, pageResult, moreFollow, lookupResult, compactResult}
 use Rattle.calls.specs.Sequence.{resultOf, run, callOf, events, messageBytesOf, traffic}
 use Rattle.calls.specs.Cases.{dot, answersOf, lastOutput, shown, StarredCases}
 use Rattle.calls.specs.Line.{LineCases}
@@ -35,7 +36,7 @@ use Rattle.calls.specs.Premises.{PremisesMet, TwoLabels}
 
 -- all that the cases compute with: whoever unfolds this unfolds each of these
 computing : Unit {0}
-unfolding keep any all compareLists member ascendsFrom ascends insert insertAll bigEndian fromBigEndian zeroAt textOk dotOk ascendingDots dotBytes dotsBytes dotsAt dotsOf prepend linesOf testBit seen wellFormed trailingOnes settled marked join total known climb unbroken windowEvents tooFar rowAt withRow sees allTo rowsOk clockOk joinDot joinEach joinAll countersOf near namesOk keyCounterOk afterType keyBytes fieldsAs isKey entryKey keyEntry messageBytes layoutOf markOk versionOk shapeOk messageAt nameOf messageOf endToEnd storeBytes keyLength keysAfter keyLabel keyDot entriesIn usedOk storeOk listingBytes apply compacted listing found effect view stateNameOk tombstoneOk damaged stateOf storeOf setUp ownAddResult ownRemoveResult takeInResult listResult lookupResult compactResult resultOf run answersOf lastOutput shown writeAnswer readAnswer countOwnAdd historyFrom ruleListing messagesOf callOf events messageBytesOf traffic mathlib.Core.List.flatMap
+unfolding keep any all compareLists member ascendsFrom ascends insert insertAll bigEndian fromBigEndian zeroAt textOk dotOk ascendingDots dotBytes dotsBytes dotsAt dotsOf prepend linesOf testBit seen wellFormed trailingOnes settled marked join total known climb unbroken windowEvents tooFar rowAt withRow sees allTo rowsOk clockOk joinDot joinEach joinAll countersOf near namesOk keyCounterOk afterType keyBytes fieldsAs isKey entryKey keyEntry messageBytes layoutOf markOk versionOk shapeOk messageAt nameOf messageOf endToEnd storeBytes keyLength keysAfter keyLabel keyDot entriesIn usedOk storeOk listingBytes fitting firstFits apply compacted listing found effect view stateNameOk tombstoneOk damaged stateOf storeOf setUp ownAddResult ownRemoveResult takeInResult listResult pageResult moreFollow lookupResult compactResult resultOf run answersOf lastOutput shown writeAnswer readAnswer countOwnAdd historyFrom ruleListing messagesOf callOf events messageBytesOf traffic mathlib.Core.List.flatMap
 computing = tt
 
 pub starred-cases : StarredCases
@@ -72,6 +73,10 @@ line-cases = record {
   stretch-empty = refl;
   slip-1 = refl;
   slip-2 = refl;
+  page-room = refl;
+  page-start = refl;
+  page-empty = refl;
+  page-output = refl;
 }
 
 pub order-cases : OrderCases
@@ -83,6 +88,7 @@ order-cases = record {
   take-in = refl;
   full-tombstone = refl;
   list = refl;
+  page = refl;
   lookup = refl;
   read-message = refl;
   write-key = refl;

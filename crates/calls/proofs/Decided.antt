@@ -1,7 +1,7 @@
 -- A call that is refused or only reads leaves what is held; one that is accepted did its work and passed every test. Assumes nothing.
 use mathlib.Core.Path.{_≡_, refl, sym, ap, _∙_}
 use mathlib.Core.Bool.{Bool, true, false, cond, false≢true}
-use mathlib.Core.List.{[], _++_}
+use mathlib.Core.List.{List, [], _++_}
 use lib.Dec.{eqb}
 use lib.ListN.{length}
 use lib.Seq.{take-at}
@@ -11,11 +11,12 @@ use Rattle.wire.specs.Bytes.{Bytes}
 use Rattle.dots.specs.Answer.{numberOf, Refusals, firstOf}
 use Rattle.dots.specs.declared.Answer.{Answer}
 use Rattle.dots.specs.declared.Answer.the-variants.{Done}
+use Rattle.dots.specs.Entries.{Line}
 use Rattle.dots.proofs.Table.{none-holds}
 use Rattle.calls.specs.declared.State.{State}
 use Rattle.calls.specs.Damage.{damaged}
-use Rattle.calls.specs.Calls.{Result, refused, decided, ownAddResult, ownRemoveResult, takeInResult, listResult, lookupResult, compactResult, ownAddRefusals, ownAddDone, ownRemoveRefusals, ownRemoveDone, takeInRefusals, takeInDone, listRefusals, listDone, notLooked, lookupRefusals, lookupDone, compactRefusals, compactDone}
-use Rattle.calls.specs.Sequence.{Reading, listReading, lookupReading, Input, addInput, removeInput, messageInput, readInput, listInput, lookupInput, compactInput, Held, resultOf, answerOf, heldAfter, step}
+use Rattle.calls.specs.Calls.{Result, refused, decided, ownAddResult, ownRemoveResult, takeInResult, linesPut, listResult, pageResult, lookupResult, compactResult, ownAddRefusals, ownAddDone, ownRemoveRefusals, ownRemoveDone, takeInRefusals, takeInDone, listed, listRefusals, pageLines, pageRefusals, notLooked, lookupRefusals, lookupDone, compactRefusals, compactDone}
+use Rattle.calls.specs.Sequence.{Reading, listReading, pageReading, lookupReading, Input, addInput, removeInput, messageInput, readInput, listInput, pageInput, lookupInput, compactInput, Held, resultOf, answerOf, heldAfter, step}
 
 -- a part of the result that the call's work leaves as a refusal does
 pub decided-either : {A : Type 0} (st : State) (store out : Bytes) (rs : Refusals) (done : Result) (part : Result → A)
@@ -62,18 +63,33 @@ pub record OnlyReads (h : Held) (i : Input) : Type 0 where
   pub store-is : resultOf h i .store ≡ h .used ++ past
   pub judged : answerOf h i ≡ 0 → damaged (h .state) (h .used ++ past) ≡ false
 
+-- one that puts lines out
+module _ (h : Held) (i : Input) (past out : Bytes) (rs : Refusals) (ls : List Line) where
+  abbrev store : Bytes
+  store = h .used ++ past
+
+  abbrev done : Result
+  done = linesPut (h .state) store out ls
+
+  lines-read : resultOf h i ≡ decided (h .state) store out rs done → (numberOf (firstOf rs) ≡ 0 → damaged (h .state) store ≡ false) → OnlyReads h i
+  lines-read is judged = record {
+    past = past;
+    state-is = ap (λ (r : Result). r .state) is ∙ decided-either (h .state) store out rs done (λ r. r .state) refl;
+    store-is = ap (λ (r : Result). r .store) is ∙ decided-either (h .state) store out rs done (λ r. r .store) refl;
+    judged = λ acc. judged (decided-done (h .state) store out rs done refl (sym (ap (λ (r : Result). numberOf (r .answer)) is) ∙ acc) .1);
+  }
+
 list-reads : (h : Held) (past out : Bytes) → OnlyReads h (listInput past out)
 unfolding resultOf listResult
 list-reads h past out =
-    let store : Bytes = h .used ++ past in
-    let rs : Refusals = listRefusals (h .state) store out in
-    let done : Result = listDone (h .state) store out in
-    record {
-      past = past;
-      state-is = decided-either (h .state) store out rs done (λ r. r .state) refl;
-      store-is = decided-either (h .state) store out rs done (λ r. r .store) refl;
-      judged = λ acc. none-holds rs (search needs) (decided-done (h .state) store out rs done refl acc .1) .0;
-    }
+    let rs : Refusals = listRefusals (h .state) (h .used ++ past) out in
+    lines-read h (listInput past out) past out rs (listed (h .state) (h .used ++ past) out) refl (λ none. none-holds rs (search needs) none .0)
+
+page-reads : (h : Held) (start past out : Bytes) → OnlyReads h (pageInput start past out)
+unfolding resultOf pageResult
+page-reads h start past out =
+    let rs : Refusals = pageRefusals (h .state) (h .used ++ past) start out in
+    lines-read h (pageInput start past out) past out rs (pageLines (h .state) (h .used ++ past) start out) refl (λ none. none-holds rs (search needs) none .0)
 
 lookup-reads : (h : Held) (label past : Bytes) → OnlyReads h (lookupInput label past)
 unfolding resultOf
@@ -89,6 +105,7 @@ lookup-reads h label past =
 -- each of them
 pub only-reads : (h : Held) (reading : Reading) (past : Bytes) → OnlyReads h (readInput reading past)
 only-reads h (listReading out) past = list-reads h past out
+only-reads h (pageReading start out) past = page-reads h start past out
 only-reads h (lookupReading label) past = lookup-reads h label past
 
 -- ---- what is held

@@ -10,37 +10,55 @@ use Rattle.wire.specs.Bytes.{Bytes}
 use Rattle.dots.specs.declared.Actor.{Actor}
 use Rattle.dots.specs.Names.{Name}
 use Rattle.dots.specs.Dots.{actorOf}
-use Rattle.dots.specs.Entries.{Entry, lineLabels}
+use Rattle.dots.specs.Entries.{Entry, Line, lineLabels}
 use Rattle.dots.specs.Message.{Message}
 use Rattle.messages.specs.Read.{messageOf}
 use Rattle.store.specs.Cut.{storeBytes}
-use Rattle.listing.specs.Listing.{listingBytes}
+use Rattle.listing.specs.Listing.{lineSize, listingBytes}
+use Rattle.replica.specs.Page.{pageAfter, pageMore}
 use Rattle.replica.specs.Machine.{compact, effect, listing, found, messagesOf as machineMessages}
 use Rattle.replica.specs.Rule.{History, noHistory, noted, historyFrom, pairs, livePairs, ruleListing, OneLabelPerDot}
 use Rattle.replica.specs.Demand3.{Life, endOf as lifeEnd, accepted, trafficOf as lifeTraffic, Follows as MachineFollows, Agree as MachineAgree}
 use Rattle.replica.proofs.Listings.{fewer}
 use Rattle.replica.proofs.RowClock.{controllers-follow, controllers-agree}
 use Rattle.calls.specs.State.{clockModel, nameOf, view}
-use Rattle.calls.specs.Calls.{Result, Looked, listRefusals, listDone, listResult, lookupResult}
-use Rattle.calls.specs.Sequence.{Input, addInput, removeInput, messageInput, readInput, listInput, lookupInput, compactInput, Held, started, resultOf, accepts, output, heldAfter, step, callOf, events, messageBytesOf, traffic}
+use Rattle.calls.specs.Calls.{Looked, listRefusals, listResult, moreFollow, lookupResult}
+use Rattle.calls.specs.Sequence.{Input, addInput, removeInput, messageInput, readInput, listInput, pageInput, lookupInput, compactInput, Held, started, resultOf, accepts, output, heldAfter, step, callOf, events, messageBytesOf, traffic}
 use Rattle.calls.specs.Demand3.{Accepted, Follows, Agree, Controlled, messagesOf, trafficOf, endOf, Demand3}
 use Rattle.calls.proofs.Reading.{used-after, viewOf}
-use Rattle.calls.proofs.Decided.{decided-done, looked-done, Sized}
+use Rattle.calls.proofs.Decided.{looked-done, Sized}
 use Rattle.calls.proofs.Accepted.{compact-accepted}
-use Rattle.calls.proofs.Instance.{put-out, same-view, is-machine, SizedHeld, stepped, controller}
+use Rattle.calls.proofs.Instance.{lines-put, same-view, is-machine, SizedHeld, stepped, controller}
+use Rattle.calls.proofs.Paging.{page-gives}
 use Rattle.calls.proofs.Sequences.{run-same, events-same, traffic-same, run-name, traffic-named, startOf, start-view, start-name}
 
--- ---- what accepted listings, lookups and compactions show
+-- ---- what accepted listings, pages, lookups and compactions show
 
 module _ (h : Held) (sized : Sized h) where
+  same-listing : (past : Bytes) → listing clockModel (view (h .state) (h .used ++ past)) ≡ listing clockModel (viewOf h)
+  same-listing past = ap (listing clockModel) (same-view h sized past)
+
   listed-is : (past out : Bytes) → Accepted h (listInput past out)
       → (output (resultOf h (listInput past out)) ≡ listingBytes (listing clockModel (viewOf h))) × (resultOf h (listInput past out) .labels ≡ length (listing clockModel (viewOf h)))
   unfolding resultOf listResult
   listed-is past out acc =
       let store : Bytes = h .used ++ past in
-      let d = decided-done (h .state) store out (listRefusals (h .state) store out) (listDone (h .state) store out) refl acc .0 in
-      let lines : listing clockModel (view (h .state) store) ≡ listing clockModel (viewOf h) = ap (listing clockModel) (same-view h sized past) in
-      (ap output d ∙ put-out (listingBytes (listing clockModel (view (h .state) store))) out ∙ ap listingBytes lines, ap (λ (r : Result). r .labels) d ∙ ap length lines)
+      let put = lines-put (h .state) store out (listRefusals (h .state) store out) (listing clockModel (view (h .state) store)) acc in
+      (put .0 ∙ ap listingBytes (same-listing past), put .1 ∙ ap length (same-listing past))
+
+  -- of the lines that are the listing's
+  paged-is : (ls : List Line) → listing clockModel (viewOf h) ≡ ls → (start past out : Bytes) → Accepted h (pageInput start past out)
+      → (output (resultOf h (pageInput start past out)) ≡ listingBytes (pageAfter lineSize ls start (length out)))
+      × (resultOf h (pageInput start past out) .labels ≡ length (pageAfter lineSize ls start (length out)))
+      × (moreFollow (h .state) (h .used ++ past) start out ≡ pageMore lineSize ls start (length out))
+  unfolding resultOf
+  paged-is ls e start past out acc =
+      let g = page-gives (h .state) (h .used ++ past) start out acc in
+      let lines = same-listing past ∙ e in (
+        g .output-is ∙ ap (λ ks. listingBytes (pageAfter lineSize ks start (length out))) lines,
+        g .labels-are ∙ ap (λ ks. length (pageAfter lineSize ks start (length out))) lines,
+        g .more-is ∙ ap (λ ks. pageMore lineSize ks start (length out)) lines,
+      )
 
   looked-is : (label past : Bytes) → Accepted h (lookupInput label past) → lookupResult (h .state) (h .used ++ past) label .listed ≡ found clockModel (viewOf h) label
   unfolding resultOf
@@ -64,6 +82,9 @@ follows-held name ms x n f = record {
   rule-means = f .rule-means;
   listing-is = λ single past out acc. listed-is (x .0) (x .1) past out acc .0 ∙ ap listingBytes (f .listing-is single);
   labels-are = λ single past out acc. listed-is (x .0) (x .1) past out acc .1 ∙ ap length (f .listing-is single);
+  page-is = λ single start past out acc. paged-is (x .0) (x .1) (ruleListing ms) (f .listing-is single) start past out acc .0;
+  page-labels-are = λ single start past out acc. paged-is (x .0) (x .1) (ruleListing ms) (f .listing-is single) start past out acc .1;
+  page-more-is = λ single start past out acc. paged-is (x .0) (x .1) (ruleListing ms) (f .listing-is single) start past out acc .2;
   lookup-is = λ single label past acc. subst (λ b. T b ↔ (label ∈ lineLabels (ruleListing ms))) (sym (looked-is (x .0) (x .1) label past acc)) (f .lookup-is single label);
   clock-is = f .clock-is;
   compaction-is = λ single past acc.

@@ -8,16 +8,20 @@ use lib.Seq.{take-append-seam}
 use borrow.Author.Tests.{eqb-true, eqb-false}
 use Rattle.wire.specs.Lists.{_∈_}
 use Rattle.wire.specs.Bytes.{Bytes}
+use Rattle.dots.specs.Answer.{numberOf, Refusals}
+use Rattle.dots.specs.Entries.{Line}
 use Rattle.dots.specs.Message.{Message, add}
 use Rattle.dots.specs.Wire.{dotsOf}
 use Rattle.messages.specs.Read.{nameOf as messageName, messageOf}
 use Rattle.messages.proofs.RoundTrip.{read-written}
+use Rattle.listing.specs.Listing.{listingBytes}
 use Rattle.replica.specs.Machine.{Controller, nextDot, effect, exchanged, allowed, messagesOf, reads, compact, compacted}
+use Rattle.calls.specs.declared.State.{State}
 use Rattle.calls.specs.State.{clockModel, nameOf, view}
-use Rattle.calls.specs.Calls.{performed, addWritten, addDot, removeWritten}
+use Rattle.calls.specs.Calls.{Result, decided, linesPut, performed, addWritten, addDot, removeWritten}
 use Rattle.calls.specs.Sequence.{Input, addInput, removeInput, messageInput, readInput, compactInput, Held, resultOf, answerOf, heldAfter, step, output, callOf, messageBytesOf}
 use Rattle.calls.proofs.Reading.{view-past, viewOf, performed-sized, performed-view}
-use Rattle.calls.proofs.Decided.{OnlyReads, only-reads, Sized, reading-keeps, refused-keeps}
+use Rattle.calls.proofs.Decided.{decided-done, OnlyReads, only-reads, Sized, reading-keeps, refused-keeps}
 use Rattle.calls.proofs.Validity.{compacted-rules}
 use Rattle.calls.proofs.Clauses.{view-rules}
 use Rattle.calls.proofs.Applied.{applied-view}
@@ -39,6 +43,13 @@ pub record IsMachine (h : Held) (i : Input) : Type 0 where
 -- what is put out is the message
 pub put-out : (message out : Bytes) → take (length message) (message ++ drop (length message) out) ≡ message
 put-out message out = take-append-seam message (drop (length message) out)
+
+-- of a call that puts lines out, their bytes and their number
+pub lines-put : (st : State) (store out : Bytes) (rs : Refusals) (ls : List Line) → numberOf (decided st store out rs (linesPut st store out ls) .answer) ≡ 0
+    → (output (decided st store out rs (linesPut st store out ls)) ≡ listingBytes ls) × (decided st store out rs (linesPut st store out ls) .labels ≡ length ls)
+lines-put st store out rs ls acc =
+    let d = decided-done st store out rs (linesPut st store out ls) refl acc .0 in
+    (ap output d ∙ put-out (listingBytes ls) out, ap (λ (r : Result). r .labels) d)
 
 module _ (h : Held) (sized : Sized h) (past : Bytes) where
   pub same-view : view (h .state) (h .used ++ past) ≡ viewOf h

@@ -7,7 +7,7 @@ use native.Mathlib.Omega.{arith}
 use lib.Dec.{eqb}
 use lib.ListN.{length, take, drop, replicate, length-take, length-drop, take-append-drop}
 use lib.Seq.{length-take-le}
-use borrow.Author.Tests.{eqb-true, leb-true, le-ltb}
+use borrow.Author.Tests.{eqb-true, ne-eqb, leb-true, le-ltb}
 use Rattle.wire.specs.Lists.{keep, any, all, ascends, insertAll}
 use Rattle.wire.specs.Bytes.{Bytes}
 use Rattle.wire.proofs.Tests.{both}
@@ -31,7 +31,7 @@ use Rattle.calls.specs.declared.State.{State}
 use Rattle.calls.specs.State.{clockModel, nameOf, tombstoneDots, view}
 use Rattle.calls.specs.Damage.{tombstoneOk, damaged}
 use Rattle.calls.specs.Effect.{padded, keysPart, stateOf, storeOf, putOut}
-use Rattle.calls.specs.Calls.{setUp, freshState, Result, Looked, refused, decided, performed, ownAddRefusals, ownAddDone, ownAddResult, ownRemoveRefusals, ownRemoveDone, ownRemoveResult, takeInRefusals, takeInDone, takeInResult, listRefusals, listDone, listResult, notLooked, lookupRefusals, lookupDone, lookupResult, compactRefusals, compactDone, compactResult}
+use Rattle.calls.specs.Calls.{setUp, freshState, Result, Looked, refused, decided, performed, ownAddRefusals, ownAddDone, ownAddResult, ownRemoveRefusals, ownRemoveDone, ownRemoveResult, takeInRefusals, takeInDone, takeInResult, listRefusals, listDone, listResult, pageRefusals, pageDone, pageResult, moreFollow, notLooked, lookupRefusals, lookupDone, lookupResult, compactRefusals, compactDone, compactResult}
 use Rattle.calls.specs.Exchange.{receiverRefusals}
 use Rattle.calls.specs.Unchanged.{Refused, Unchanged, NothingFound, zeroState, RefusalsLeave, TombstoneFits, EmptyRemoves}
 use Rattle.calls.proofs.Decided.{decided-refused}
@@ -50,6 +50,9 @@ module _ (st : State) (store out : Bytes) (rs : Refusals) (done : Result) (is-do
   refusal-leaves : Refused (decided st store out rs done .answer) → Unchanged st store out (decided st store out rs done)
   refusal-leaves ref = rw (decided-refused st store out rs done is-done ref) (unchanged st store out (firstOf rs))
 
+  refusal-first : Refused (decided st store out rs done .answer) → eqb (numberOf (firstOf rs)) 0 ≡ false
+  refusal-first ref = ne-eqb (numberOf (firstOf rs)) 0 (λ e. ref (ap (λ (r : Result). numberOf (r .answer)) (decided-refused st store out rs done is-done ref) ∙ e))
+
 -- a lookup's
 lookup-leaves : (a : Answer) (b : Bool) (done : Looked) → done .answer ≡ Done → Refused (cond b done (notLooked a) .answer) → NothingFound (cond b done (notLooked a))
 lookup-leaves a true done is-done ref = absurd (ref (ap numberOf is-done))
@@ -62,12 +65,16 @@ set-up-leaves a true done e ref = absurd (ref (eqb-true _ 0 e))
 set-up-leaves a false done e ref = refl
 
 pub refusals-leave : RefusalsLeave
-unfolding setUp ownAddResult ownRemoveResult takeInResult listResult lookupResult compactResult damaged
+unfolding setUp ownAddResult ownRemoveResult takeInResult listResult pageResult moreFollow lookupResult compactResult damaged
 refusals-leave = record {
   own-add = λ st store label context out. refusal-leaves st store out (ownAddRefusals st store label context out) (ownAddDone st store label context out) refl;
   own-remove = λ st store context out. refusal-leaves st store out (ownRemoveRefusals st store context out) (ownRemoveDone st store context out) refl;
   take-in = λ st store message. refusal-leaves st store [] (takeInRefusals st store message) (takeInDone st store message) refl;
   list = λ st store out. refusal-leaves st store out (listRefusals st store out) (listDone st store out) refl;
+  page = λ st store start out ref. (
+    refusal-leaves st store out (pageRefusals st store start out) (pageDone st store start out) refl ref,
+    rw (refusal-first st store out (pageRefusals st store start out) (pageDone st store start out) refl ref),
+  );
   lookup = λ st store label. lookup-leaves (firstOf (lookupRefusals st store label)) (eqb (numberOf (firstOf (lookupRefusals st store label))) 0) (lookupDone st store label) refl;
   compact = λ st store. refusal-leaves st store [] (compactRefusals st store) (compactDone st store) refl;
   set-up = λ actor name. set-up-leaves (setUp actor name .answer) (eqb (numberOf (setUp actor name .answer)) 0) (freshState actor name) refl;

@@ -1,6 +1,6 @@
 -- The calls on bytes: the first refusal that holds; else the machine's effect on the entries read from the store, written back.
 use Prim.Native.Nat.{ℕ, _+_}
-use mathlib.Core.Bool.{Bool, false, cond, _||_}
+use mathlib.Core.Bool.{Bool, false, not, cond, _&&_, _||_}
 use mathlib.Core.List.{List, [], _∷_, _++_}
 use lib.Dec.{isEq, eqb}
 use lib.ListN.{length}
@@ -18,14 +18,15 @@ use Rattle.dots.specs.Message.{Message, add, remove, offeredOf}
 use Rattle.messages.specs.Message.{messageBytes}
 use Rattle.messages.specs.Read.{nameOf as messageName, messageOf, readRefusals}
 use Rattle.store.specs.Cut.{storeBytes}
-use Rattle.listing.specs.Listing.{listingBytes}
+use Rattle.listing.specs.Listing.{lineSize, listingBytes}
+use Rattle.replica.specs.Page.{pageAfter, pageFits, pageMore}
 use Rattle.replica.specs.Machine.{Call, ownAdd, ownRemove, takeIn, compact, effect, nextDot, ifUnseen, listing, found}
 use Rattle.calls.specs.declared.State.{State}
 use Rattle.calls.specs.declared.SetUp.{SetUp}
 use Rattle.calls.specs.State.{clockModel, Machine, nameOf, entries, view}
 use Rattle.calls.specs.Damage.{damaged}
 use Rattle.calls.specs.Effect.{padded, tombstoneOf, stateOf, storeOf, putOut}
-use Rattle.calls.specs.Refusals.{badActor, badName, badLabel, badContext, hasDot, outputShort, otherSet, ownAhead, counterEnd, tooFar, tombstoneFull, storeFull}
+use Rattle.calls.specs.Refusals.{badActor, badName, badLabel, badStart, badContext, hasDot, outputShort, otherSet, ownAhead, counterEnd, tooFar, tombstoneFull, storeFull}
 use Rattle.clock.specs.Clock.{zeroClock}
 
 -- ---- set-up
@@ -153,6 +154,10 @@ module _ (st : State) (store message : Bytes) where
 
 -- ---- listing
 
+-- lines put out, nothing else changed
+abbrev pub linesPut : State → Bytes → Bytes → List Line → Result
+linesPut st store out ls = record { answer = Done; state = st; store = store; out = putOut (listingBytes ls) out; written = length (listingBytes ls); labels = length ls }
+
 module _ (st : State) (store out : Bytes) where
   abbrev pub listed : List Line
   listed = listing clockModel (view st store)
@@ -161,10 +166,34 @@ module _ (st : State) (store out : Bytes) where
   listRefusals = (damaged st store, Damaged) ∷ (outputShort out (listingBytes listed), OutputShort) ∷ []
 
   abbrev pub listDone : Result
-  listDone = record { answer = Done; state = st; store = store; out = putOut (listingBytes listed) out; written = length (listingBytes listed); labels = length listed }
+  listDone = linesPut st store out listed
 
   unfoldable pub listResult : Result
   listResult = decided st store out listRefusals listDone
+
+-- ---- page: "starting after a named label (an empty one means the front), write as many whole entries as fit and say whether more follow"
+
+module _ (st : State) (store start out : Bytes) where
+  abbrev pub pageLines : List Line
+  pageLines = pageAfter lineSize (listing clockModel (view st store)) start (length out)
+
+  -- "Any other starting label that breaks its rule is 5", "If the first entry doesn't fit, answer 13."
+  abbrev pub pageRefusals : Refusals
+  pageRefusals =
+      (damaged st store, Damaged)
+      ∷ (badStart start, BadName)
+      ∷ (not (pageFits lineSize (listing clockModel (view st store)) start (length out)), OutputShort)
+      ∷ []
+
+  abbrev pub pageDone : Result
+  pageDone = linesPut st store out pageLines
+
+  unfoldable pub pageResult : Result
+  pageResult = decided st store out pageRefusals pageDone
+
+  -- whether more follow; a refused page says no
+  unfoldable pub moreFollow : Bool
+  moreFollow = eqb (numberOf (firstOf pageRefusals)) 0 && pageMore lineSize (listing clockModel (view st store)) start (length out)
 
 -- ---- lookup
 

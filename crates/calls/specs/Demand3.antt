@@ -14,10 +14,11 @@ use Rattle.dots.specs.Entries.{lineLabels}
 use Rattle.dots.specs.Message.{Message}
 use Rattle.clock.specs.Clock.{sees}
 use Rattle.store.specs.Cut.{storeBytes}
-use Rattle.listing.specs.Listing.{listingBytes}
+use Rattle.listing.specs.Listing.{lineSize, listingBytes}
+use Rattle.replica.specs.Page.{pageAfter, pageMore}
 use Rattle.replica.specs.Rule.{pairs, removed, Paired, livePairs, ruleListing, IsListing, OneLabelPerDot}
-use Rattle.calls.specs.Calls.{setUp, lookupResult}
-use Rattle.calls.specs.Sequence.{Input, listInput, lookupInput, compactInput, Held, started, resultOf, answerOf, output, step, run, acceptedMessages, traffic}
+use Rattle.calls.specs.Calls.{setUp, moreFollow, lookupResult}
+use Rattle.calls.specs.Sequence.{Input, listInput, pageInput, lookupInput, compactInput, Held, started, resultOf, answerOf, output, step, run, acceptedMessages, traffic}
 
 abbrev pub Accepted : Held → Input → Type 0
 Accepted h i = answerOf h i ≡ 0
@@ -31,6 +32,13 @@ pub record Follows (name : Name) (ms : List Message) (h : Held) : Type 0 where
   pub listing-is : OneLabelPerDot (pairs ms) → (past out : Bytes) → Accepted h (listInput past out) → output (resultOf h (listInput past out)) ≡ listingBytes (ruleListing ms)
   -- "the number of labels is the number of these"
   pub labels-are : OneLabelPerDot (pairs ms) → (past out : Bytes) → Accepted h (listInput past out) → resultOf h (listInput past out) .labels ≡ length (ruleListing ms)
+  -- "each page speaks of the state it finds": the rule's lines after the starting label, as many as fit, how many, and whether more follow
+  pub page-is : OneLabelPerDot (pairs ms) → (start past out : Bytes) → Accepted h (pageInput start past out)
+      → output (resultOf h (pageInput start past out)) ≡ listingBytes (pageAfter lineSize (ruleListing ms) start (length out))
+  pub page-labels-are : OneLabelPerDot (pairs ms) → (start past out : Bytes) → Accepted h (pageInput start past out)
+      → resultOf h (pageInput start past out) .labels ≡ length (pageAfter lineSize (ruleListing ms) start (length out))
+  pub page-more-is : OneLabelPerDot (pairs ms) → (start past out : Bytes) → Accepted h (pageInput start past out)
+      → moreFollow (h .state) (h .used ++ past) start out ≡ pageMore lineSize (ruleListing ms) start (length out)
   -- lookup says yes "exactly if the listing has the label"
   pub lookup-is : OneLabelPerDot (pairs ms) → (label past : Bytes) → Accepted h (lookupInput label past)
       → T (lookupResult (h .state) (h .used ++ past) label .listed) ↔ (label ∈ lineLabels (ruleListing ms))

@@ -1,21 +1,22 @@
--- The other cases of document 01's "Both sides of the line", its slips that no settled case shows, and what calls leave past what they write.
+-- The other cases of document 01's "Both sides of the line", its slips that no settled case shows, what calls leave past what they write, and pages.
 use Prim.Native.Nat.{ℕ}
-use mathlib.Core.Bool.{true, false}
-use mathlib.Core.List.{[], _∷_, _++_}
+use mathlib.Core.Bool.{Bool, true, false}
+use mathlib.Core.List.{[], _∷_, _++_, map}
 use mathlib.Core.Path.{_≡_}
 use lib.ListN.{replicate}
 use Rattle.wire.specs.Bytes.{Bytes}
+use Rattle.dots.specs.Answer.{numberOf}
 use Rattle.dots.specs.declared.Answer.the-variants.{Done}
 use Rattle.dots.specs.Dots.{Context}
 use Rattle.dots.specs.Wire.{dotsBytes}
 use Rattle.dots.specs.Entries.{entry}
 use Rattle.dots.specs.Message.{add, remove}
 use Rattle.keys.specs.Entry.{entryKey}
-use Rattle.keys.specs.Cases.{R1, B7, B8}
+use Rattle.keys.specs.Cases.{R1, B7, B70, B8}
 use Rattle.messages.specs.Message.{messageBytes}
 use Rattle.messages.specs.Cases.{a1}
-use Rattle.calls.specs.Calls.{Looked, lookupResult}
-use Rattle.calls.specs.Sequence.{Input, addInput, removeInput, messageInput, listInput, compactInput, Held, started, resultOf, run}
+use Rattle.calls.specs.Calls.{Looked, moreFollow, lookupResult}
+use Rattle.calls.specs.Sequence.{Input, addInput, removeInput, messageInput, listInput, pageInput, compactInput, Held, started, resultOf, output, run}
 use Rattle.calls.specs.Cases.{dot, dotsFrom, adds, removes, takesIn, compacts, room, row, onlyB7, answersOf, shown}
 
 abbrev wide : Bytes
@@ -40,6 +41,17 @@ lookedUp label = lookupResult (added .state) (added .used ++ wide) label
 
 abbrev key : ℕ → ℕ → Bytes
 key a n = entryKey R1 (entry B7 (dot a n))
+
+-- one that lists B7 and B8, 14 bytes each
+abbrev two : Held
+two = run fresh (addsLabel B7 [] ∷ addsLabel B8 [] ∷ [])
+
+-- of a page after this label into this many bytes: the answer, the number of labels, and whether more follow
+abbrev paged : Held → Bytes × ℕ → ℕ × ℕ × Bool
+paged h (start, n) =
+    let out : Bytes = replicate n 0 in
+    let r = resultOf h (pageInput start [] out) in
+    (numberOf (r .answer), r .labels, moreFollow (h .state) (h .used ++ []) start out)
 
 pub record LineCases : Type 0 where
   -- "Label of 32 bytes taken, 33: 5."
@@ -68,3 +80,9 @@ pub record LineCases : Type 0 where
   -- slip 2: a context removes the dots that it lists, and none below them
   pub slip-2 : shown fresh (adds [] ∷ addInput B8 [] room room ∷ removes (dot 1 2 ∷ []) ∷ [])
       ≡ record { answers = 0 ∷ 0 ∷ 0 ∷ []; put-out = messageBytes R1 (remove (dot 1 2 ∷ [])); row-3 = row 0 0; tombstone = dot 1 2 ∷ []; used = 38; listing = onlyB7 1 1; labels = 1 }
+  -- pages from the front: no room for the first label, just enough for it, too little for both, enough
+  pub page-room : map (paged two) (([], 13) ∷ ([], 14) ∷ ([], 27) ∷ ([], 28) ∷ []) ≡ (13, 0, false) ∷ (0, 1, true) ∷ (0, 1, true) ∷ (0, 2, false) ∷ []
+  -- after a label that is listed, after one that is not, after the last; and of an empty listing
+  pub page-start : map (paged two) ((B7, 14) ∷ (B70, 14) ∷ (B8, 0) ∷ []) ≡ (0, 1, false) ∷ (0, 1, false) ∷ (0, 0, false) ∷ []
+  pub page-empty : paged fresh ([], 0) ≡ (0, 0, false)
+  pub page-output : output (resultOf two (pageInput [] [] (replicate 27 0))) ≡ onlyB7 1 1

@@ -21,7 +21,7 @@ use Rattle.keys.specs.Cases.{R1, B7}
 use Rattle.messages.specs.Message.{messageBytes}
 use Rattle.messages.specs.Read.{readAnswer}
 use Rattle.calls.specs.Effect.{padded, tombstoneOf}
-use Rattle.calls.specs.Sequence.{Input, addInput, removeInput, messageInput, listInput, lookupInput, Held, answerOf}
+use Rattle.calls.specs.Sequence.{Input, addInput, removeInput, messageInput, listInput, pageInput, lookupInput, Held, answerOf}
 use Rattle.calls.specs.Cases.{dot, dotsFrom, room, answersOf}
 
 -- the first call on what is damaged, then it and the others on what is whole: a refused call leaves all as it was
@@ -138,6 +138,8 @@ pub record OrderCases : Type 0 where
       ∷ removes (dot 2 128 ∷ []) room
       ∷ []) ≡ 10 ∷ 11 ∷ 10 ∷ 11 ∷ 10 ∷ 11 ∷ 0 ∷ []
   pub list : mended broken whole (listInput [] [] ∷ listInput [] room ∷ []) ≡ 1 ∷ 13 ∷ 0 ∷ []
+  -- a start with a 0 byte breaks its rule, and B7 comes after it
+  pub page : mended broken whole (pageInput (0 ∷ []) [] [] ∷ pageInput [] [] [] ∷ pageInput [] [] room ∷ []) ≡ 1 ∷ 5 ∷ 13 ∷ 0 ∷ []
   pub lookup : mended broken whole (lookupInput [] [] ∷ lookupInput B7 [] ∷ []) ≡ 1 ∷ 5 ∷ 0 ∷ []
   -- the formats, which need no state
   pub read-message : map (λ (m : Bytes). numberOf (readAnswer m)) messages ≡ 2 ∷ 3 ∷ 4 ∷ 5 ∷ 6 ∷ 0 ∷ 0 ∷ 0 ∷ 0 ∷ []

@@ -8,7 +8,8 @@ use Rattle.dots.specs.Answer.{numberOf}
 use Rattle.calls.specs.declared.State.{State}
 use Rattle.calls.specs.declared.Outcome.{Outcome}
 use Rattle.calls.specs.declared.Listed.{Listed}
-use Rattle.calls.specs.Calls.{Result, lookupResult}
+use Rattle.calls.specs.declared.Paged.{Paged}
+use Rattle.calls.specs.Calls.{Result, pageResult, moreFollow, lookupResult}
 
 -- a call that may change state and store and puts bytes out
 pub record Leaves (result : Result) (store out : Bytes) (r : Outcome) : Type 0 where
@@ -24,6 +25,18 @@ pub record Lists (result : Result) (out : Bytes) (r : Listed) : Type 0 where
   pub written-is : r .written ≡ result .written
   pub labels-are : r .labels ≡ result .labels
   pub out-is : out ≡ result .out
+
+-- a page: `more` says whether more follow
+pub record Pages (result : Result) (more : Bool) (out : Bytes) (r : Paged) : Type 0 where
+  pub answered : r .answer ≡ result .answer
+  pub written-is : r .written ≡ result .written
+  pub labels-are : r .labels ≡ result .labels
+  pub more-is : r .more ≡ more
+  pub out-is : out ≡ result .out
+
+-- the same of the page after a starting label
+abbrev pub PagesAfter : State → Bytes → Bytes → Bytes → Bytes → Paged → Type 0
+PagesAfter st store start out out′ r = Pages (pageResult st store start out) (moreFollow st store start out) out′ r
 
 -- a lookup: the answer's number, the yes, and the very stretch of the lent store
 pub record LooksUp (st : State) (store : RefT Bytes) (label : Bytes) (number : ℕ) (listed : Bool) (r : RefT Bytes) : Type 0 where

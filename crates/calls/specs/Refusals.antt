@@ -1,6 +1,6 @@
 -- The tests of document 01's table "When a controller says no", each in its words. Refusal 1 is in Damage, 2 to 6 of a message in `messages`.
 use Prim.Native.Nat.{ℕ, _+_}
-use mathlib.Core.Bool.{Bool, not, _&&_}
+use mathlib.Core.Bool.{Bool, not, _&&_, _||_}
 use mathlib.Core.List.{List}
 use lib.Dec.{isEq, ltb, eqb}
 use lib.ListN.{length}
@@ -27,6 +27,10 @@ badName name = not (nameOk name)
 
 abbrev pub badLabel : Label → Bool
 badLabel label = not (labelOk label)
+
+-- of a page's starting label: "an empty one means the front", "Any other starting label that breaks its rule is 5"
+abbrev pub badStart : Label → Bool
+badStart start = not (eqb (length start) 0 || labelOk start)
 
 -- 6: "a context breaks its rule": whole dots, "0 to 16 dots, strictly ascending", each dot within its rule
 abbrev pub badContext : Bytes → Bool

@@ -15,11 +15,12 @@ use Rattle.messages.specs.Read.{messageOf}
 use Rattle.replica.specs.Machine.{Call, ownAdd, ownRemove, takeIn, reads, compact}
 use Rattle.replica.specs.Rule.{Event, noHistory, historyFrom}
 use Rattle.calls.specs.declared.State.{State}
-use Rattle.calls.specs.Calls.{setUp, Result, refused, ownAddResult, ownRemoveResult, takeInResult, listResult, lookupResult, compactResult}
+use Rattle.calls.specs.Calls.{setUp, Result, refused, ownAddResult, ownRemoveResult, takeInResult, listResult, pageResult, lookupResult, compactResult}
 
 -- a call that only reads, with its arguments and the output that is lent to it
 pub data Reading : Type 0 where
   listReading : (out : Bytes) → Reading
+  pageReading : (start out : Bytes) → Reading
   lookupReading : (label : Bytes) → Reading
 
 -- a call with its arguments and lent buffers: `out`, and the store's buffer `past` the used bytes, which "may differ from call to call, in length and in content"
@@ -32,6 +33,9 @@ pub data Input : Type 0 where
 
 abbrev pub listInput : Bytes → Bytes → Input
 listInput past out = readInput (listReading out) past
+
+abbrev pub pageInput : Bytes → Bytes → Bytes → Input
+pageInput start past out = readInput (pageReading start out) past
 
 abbrev pub lookupInput : Bytes → Bytes → Input
 lookupInput label past = readInput (lookupReading label) past
@@ -46,6 +50,7 @@ started actor name = record { state = setUp actor name .state; used = [] }
 
 abbrev pub readingResult : State → Bytes → Reading → Result
 readingResult st store (listReading out) = listResult st store out
+readingResult st store (pageReading start out) = pageResult st store start out
 readingResult st store (lookupReading label) = refused st store [] (lookupResult st store label .answer)
 
 unfoldable pub resultOf : Held → Input → Result

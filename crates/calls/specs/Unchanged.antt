@@ -18,7 +18,7 @@ use Rattle.calls.specs.declared.State.{State}
 use Rattle.calls.specs.State.{nameOf}
 use Rattle.calls.specs.Damage.{damaged}
 use Rattle.calls.specs.Effect.{putOut}
-use Rattle.calls.specs.Calls.{setUp, Result, Looked, ownAddResult, ownRemoveResult, takeInResult, listResult, lookupResult, compactResult}
+use Rattle.calls.specs.Calls.{setUp, Result, Looked, ownAddResult, ownRemoveResult, takeInResult, listResult, pageResult, moreFollow, lookupResult, compactResult}
 use Rattle.clock.specs.Clock.{clockWords}
 use Rattle.dots.specs.Wire.{tombstoneSize}
 
@@ -56,6 +56,8 @@ pub record RefusalsLeave : Type 0 where
   pub own-remove : (st : State) (store context out : Bytes) → Refused (ownRemoveResult st store context out .answer) → Unchanged st store out (ownRemoveResult st store context out)
   pub take-in : (st : State) (store message : Bytes) → Refused (takeInResult st store message .answer) → Unchanged st store [] (takeInResult st store message)
   pub list : (st : State) (store out : Bytes) → Refused (listResult st store out .answer) → Unchanged st store out (listResult st store out)
+  pub page : (st : State) (store start out : Bytes) → Refused (pageResult st store start out .answer)
+      → Unchanged st store out (pageResult st store start out) × (moreFollow st store start out ≡ false)
   pub lookup : (st : State) (store label : Bytes) → Refused (lookupResult st store label .answer) → NothingFound (lookupResult st store label)
   pub compact : (st : State) (store : Bytes) → Refused (compactResult st store .answer) → Unchanged st store [] (compactResult st store)
   -- "A refused set-up gives a state that is zero throughout, ... and so is damaged"

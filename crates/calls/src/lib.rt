@@ -48,3 +48,11 @@ pub struct Listed {
     pub written: usize,
     pub labels: usize,
 }
+
+// What a page gives: the answer, how many bytes were put out, how many labels they list, and whether more follow.
+pub struct Paged {
+    pub answer: dots::Answer,
+    pub written: usize,
+    pub labels: usize,
+    pub more: bool,
+}

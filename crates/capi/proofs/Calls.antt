@@ -12,12 +12,13 @@ use Rattle.calls.specs.declared.State.{State}
 use Rattle.calls.specs.declared.SetUp.{SetUp}
 use Rattle.calls.specs.declared.Outcome.{Outcome}
 use Rattle.calls.specs.declared.Listed.{Listed}
-use Rattle.calls.specs.Calls.{Result, notLooked, setUp, lookupResult}
+use Rattle.calls.specs.declared.Paged.{Paged}
+use Rattle.calls.specs.Calls.{Result, notLooked, setUp, pageResult, moreFollow, lookupResult}
 use Rattle.calls.specs.Promise as controller
 use Rattle.block.specs.Block.{blockSize, stateBytes, stateIn}
-use Rattle.capi.specs.Left.{packed, noBlock, onBlock, lookupLeft}
+use Rattle.capi.specs.Left.{packed, noBlock, onBlock, pageLeft, moreLeft, lookupLeft}
 use Rattle.block.proofs.Blocks.{bytes-in-state}
-use Rattle.capi.specs.Promise.{SetsUp, Leaves, Changes, Lists, LooksUp}
+use Rattle.capi.specs.Promise.{SetsUp, Leaves, Changes, Lists, Pages, LooksUp}
 
 -- ---- bytes that are no block
 
@@ -35,6 +36,18 @@ module _ (block : Bytes) (other : length block ≡ blockSize → ⊥) where
 
     pub not-listed : Lists (onBlock block store out call) out 0 0 1
     not-listed = rw none (record { answered = refl; out-is = refl; written-is = refl; labels-are = refl })
+
+  pub not-paged : (store start out : Bytes) → Pages (pageLeft block store start out) (moreLeft block store start out) out 0 0 false 1
+  unfolding moreLeft
+  not-paged store start out =
+      let is = not-listed store out (λ (st : State). pageResult st store start out) in
+      record {
+        answered = is .answered;
+        out-is = is .out-is;
+        written-is = is .written-is;
+        labels-are = is .labels-are;
+        more-is = rw (ne-eqb (length block) blockSize other);
+      }
 
   pub not-set-up : (actor : ℕ) (name : Bytes) → SetsUp actor name block block 1
   not-set-up actor name = let none = ne-eqb (length block) blockSize other in record { answered = rw none; block-is = rw none; state-is = rw none }
@@ -93,3 +106,16 @@ module _ (block : Bytes) (size : length block ≡ blockSize) where
       unchanged small store′ out′ r done leaves same number =
           let is : done .state ≡ stateIn block = leaves .state-is ∙ same ∙ unpacked in
           changed block store′ out′ r done leaves (sym (bytes-in-state block size small) ∙ ap stateBytes (sym is), sym is) number
+
+    pub paged : (store start out out′ : Bytes) (r : ℕ) (page : Paged) → controller.PagesAfter st store start out out′ page → r ≡ numberOf (page .answer)
+        → Pages (pageLeft block store start out) (moreLeft block store start out) out′ (page .written) (page .labels) (page .more) r
+    unfolding moreLeft
+    paged store start out out′ r page pages number =
+        let is : moreLeft block store start out ≡ moreFollow st store start out = rw (eq-eqb (length block) blockSize size, unpacked) in
+        rw (some store out (λ (st′ : State). pageResult st′ store start out), is) (record {
+          answered = number ∙ ap numberOf (pages .answered);
+          out-is = pages .out-is;
+          written-is = pages .written-is;
+          labels-are = pages .labels-are;
+          more-is = pages .more-is;
+        })

@@ -1,4 +1,4 @@
--- A refused call keeps every lent byte, those of the block too, and its counts are 0. Assumes nothing.
+-- A refused call keeps every lent byte, those of the block too, and its counts are 0; a refused page says that none follow. Assumes nothing.
 use mathlib.Core.Path.{_≡_, refl}
 use mathlib.Core.Bool.{Bool, true, false}
 use mathlib.Core.List.{[]}
@@ -8,9 +8,10 @@ use borrow.Author.Tests.{eqb-true}
 use Rattle.wire.specs.Bytes.{Bytes, AreBytes}
 use Rattle.dots.specs.Answer.{numberOf, Refusals, firstOf}
 use Rattle.calls.specs.declared.State.{State}
-use Rattle.calls.specs.Calls.{Result, decided, ownAddRefusals, ownAddDone, ownAddResult, takeInRefusals, takeInDone, takeInResult, ownRemoveRefusals, ownRemoveDone, ownRemoveResult, listRefusals, listDone, listResult, compactRefusals, compactDone, compactResult}
+use Rattle.calls.specs.Calls.{Result, decided, ownAddRefusals, ownAddDone, ownAddResult, takeInRefusals, takeInDone, takeInResult, ownRemoveRefusals, ownRemoveDone, ownRemoveResult, listRefusals, listDone, listResult, pageRefusals, pageDone, pageResult, compactRefusals, compactDone, compactResult}
 use Rattle.block.specs.Block.{blockSize, stateIn}
-use Rattle.capi.specs.Left.{Left, isBlock, onBlock, ownAddLeft, ownRemoveLeft, takeInLeft, listLeft, compactLeft}
+use Rattle.capi.specs.Left.{Left, isBlock, onBlock, ownAddLeft, ownRemoveLeft, takeInLeft, listLeft, pageLeft, moreLeft, compactLeft}
+use Rattle.calls.proofs.Unchanged.{refusals-leave}
 use Rattle.block.proofs.Blocks.{bytes-in-state}
 
 pub record Kept (left : Left) (block store out : Bytes) : Type 0 where
@@ -60,6 +61,20 @@ module _ (block store out : Bytes) (small : AreBytes block) where
   pub list-kept : Refused (listLeft block store out) → Kept (listLeft block store out) block store out
   unfolding listResult
   list-kept = refused-keeps block store out small (λ (st : State). listRefusals st store out) (λ (st : State). listDone st store out) (λ st. refl)
+
+  module _ (start : Bytes) where
+    pub page-kept : Refused (pageLeft block store start out) → Kept (pageLeft block store start out) block store out
+    unfolding pageResult
+    page-kept = refused-keeps block store out small (λ (st : State). pageRefusals st store start out) (λ (st : State). pageDone st store start out) (λ st. refl)
+
+    ends : (b : Bool) → isBlock block ≡ b → Refused (pageLeft block store start out) → moreLeft block store start out ≡ false
+    unfolding onBlock moreLeft
+    ends true size r = rw size (refusals-leave .page (stateIn block) store start out (λ e. r (rw size e)) .1)
+    ends false size r = rw size
+
+    -- a refused page says that none follow
+    pub page-ends : Refused (pageLeft block store start out) → moreLeft block store start out ≡ false
+    page-ends = ends (isBlock block) refl
 
 pub take-in-kept : (block store message : Bytes) → AreBytes block → Refused (takeInLeft block store message) → Kept (takeInLeft block store message) block store []
 unfolding takeInResult

@@ -1,6 +1,6 @@
 -- What each call leaves: the controller's result on the state of a block, as numbers and bytes. A block of another size is refused as damaged.
 use Prim.Native.Nat.{ℕ}
-use mathlib.Core.Bool.{Bool, cond, not}
+use mathlib.Core.Bool.{Bool, false, cond, not}
 use mathlib.Core.List.{[], _∷_}
 use lib.Dec.{eqb}
 use lib.ListN.{length}
@@ -12,7 +12,7 @@ use Rattle.keys.specs.Key.{Key, typeByte}
 use Rattle.keys.specs.Tests.{kindOf}
 use Rattle.keys.specs.Write.{writeRefusals}
 use Rattle.calls.specs.declared.State.{State}
-use Rattle.calls.specs.Calls.{Result, Looked, notLooked, ownAddResult, ownRemoveResult, takeInResult, listResult, lookupResult, compactResult}
+use Rattle.calls.specs.Calls.{Result, Looked, notLooked, ownAddResult, ownRemoveResult, takeInResult, listResult, pageResult, moreFollow, lookupResult, compactResult}
 use Rattle.block.specs.Block.{blockSize, stateBytes, stateIn}
 
 pub record Left : Type 0 where
@@ -53,6 +53,13 @@ takeInLeft block store message = onBlock block store [] (λ st. takeInResult st 
 
 abbrev pub listLeft : Bytes → Bytes → Bytes → Left
 listLeft block store out = onBlock block store out (λ st. listResult st store out)
+
+abbrev pub pageLeft : Bytes → Bytes → Bytes → Bytes → Left
+pageLeft block store start out = onBlock block store out (λ st. pageResult st store start out)
+
+-- whether more follow a page; bytes that are no block say no
+unfoldable pub moreLeft : Bytes → Bytes → Bytes → Bytes → Bool
+moreLeft block store start out = cond (isBlock block) (moreFollow (stateIn block) store start out) false
 
 abbrev pub compactLeft : Bytes → Bytes → Left
 compactLeft block store = onBlock block store [] (λ st. compactResult st store)

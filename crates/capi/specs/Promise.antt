@@ -18,11 +18,11 @@ use Rattle.messages.specs.declared.MessageRead.{MessageRead}
 use Rattle.messages.specs.Read.{readOf}
 use Rattle.calls.specs.Calls.{setUp}
 use Rattle.block.specs.Block.{stateBytes, stateIn}
-use Rattle.capi.specs.Left.{Left, isBlock, ownAddLeft, ownRemoveLeft, listLeft, lookupLeft, keyAnswer, keyWritten}
+use Rattle.capi.specs.Left.{Left, isBlock, ownAddLeft, ownRemoveLeft, listLeft, pageLeft, moreLeft, lookupLeft, keyAnswer, keyWritten}
 
 -- the version of the interface: 100 times its major number and its minor number
 abbrev pub interfaceVersion : ℕ
-interfaceVersion = 100
+interfaceVersion = 101
 
 -- set-up: a refused one leaves the block of the state that is zero throughout
 pub record SetsUp (actor : ℕ) (name before after : Bytes) (r : ℕ) : Type 0 where
@@ -70,6 +70,20 @@ abbrev pub ListsLabels : Loan Bytes → Loan Bytes → Loan Bytes → Loan ℕ �
 ListsLabels state store out written labels r =
     Lists (listLeft (before state) (before store) (before out))
     (after out) (after written) (after labels) r
+
+-- a page: `follow` says whether more follow
+pub record Pages (left : Left) (follow : Bool) (out : Bytes) (written labels : ℕ) (more : Bool) (r : ℕ) : Type 0 where
+  pub answered : r ≡ left .number
+  pub out-is : out ≡ left .out
+  pub written-is : written ≡ left .written
+  pub labels-are : labels ≡ left .labels
+  pub more-is : more ≡ follow
+
+-- the same, on what is lent to it
+abbrev pub PagesLabels : Loan Bytes → Loan Bytes → Loan Bytes → Loan Bytes → Loan ℕ → Loan ℕ → Loan Bool → ℕ → Type 0
+PagesLabels state store start out written labels more r =
+    Pages (pageLeft (before state) (before store) (before start) (before out)) (moreLeft (before state) (before store) (before start) (before out))
+    (after out) (after written) (after labels) (after more) r
 
 -- a lookup: the answer's number, the yes, and the very stretch of the lent store
 pub record LooksUp (block : Bytes) (store : RefT Bytes) (label : Bytes) (found : RefT Bytes) (listed : Bool) (r : ℕ) : Type 0 where

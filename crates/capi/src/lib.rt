@@ -2,10 +2,10 @@
 ghost use mathlib.Core.Path.{_≡_};
 ghost use Rattle.wire.specs.Loans.{before, after};
 ghost use Rattle.capi.specs.Left.{takeInLeft, compactLeft};
-ghost use Rattle.capi.specs.Promise.{interfaceVersion, SetsUp, OwnAdds, OwnRemoves, Changes, ListsLabels, LooksUp, WritesKeyOf, ReadsKeyIn, ReadsMessageIn};
+ghost use Rattle.capi.specs.Promise.{interfaceVersion, SetsUp, OwnAdds, OwnRemoves, Changes, ListsLabels, PagesLabels, LooksUp, WritesKeyOf, ReadsKeyIn, ReadsMessageIn};
 
 // The version of this interface: 100 times its major number and its minor number.
-const VERSION: u32 = 100;
+const VERSION: u32 = 101;
 
 // Tells the version of the interface.
 #[no_mangle]
@@ -114,6 +114,33 @@ pub extern "C" fn ptl_list(
     *written = done.written;
     *labels = done.labels;
     let answer = done.answer;
+    dots::number_of(answer)
+}
+
+// Lists the labels after a starting one, as many as fit, and tells whether more follow.
+#[no_mangle]
+pub extern "C" fn ptl_page(
+    state: &[u8],
+    store: &[u8],
+    start: &[u8],
+    out: &mut [u8],
+    written: &mut usize,
+    labels: &mut usize,
+    more: &mut bool,
+) -> u8
+    ensures { λ r. ⌜ PagesLabels state store start out written labels more r ⌝ }
+{
+    *written = 0;
+    *labels = 0;
+    *more = false;
+    if state.len() != block::STATE_SIZE {
+        return 1;
+    }
+    let page = reads::page(block::unpack(state), store, start, out);
+    *written = page.written;
+    *labels = page.labels;
+    *more = page.more;
+    let answer = page.answer;
     dots::number_of(answer)
 }
 

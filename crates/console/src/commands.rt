@@ -31,3 +31,35 @@ pub fn list(state: &[u8], store: &[u8], out: &mut [u8]) {
     print::number(answer as u64);
     print::output(labels as u64, out, written);
 }
+
+// Whether more follow a page; a refused one says neither.
+fn print_more(answer: u8, more: bool) {
+    if more {
+        print::text(b" more");
+        return;
+    }
+    if answer == 0 {
+        print::text(b" ended");
+        return;
+    }
+    print::text(b" -");
+}
+
+pub fn page(state: &[u8], store: &[u8], start: &[u8], out: &mut [u8]) {
+    let mut written = usize::MAX;
+    let mut labels = usize::MAX;
+    let mut more = true;
+    let answer = capi::ptl_page(
+        state,
+        store,
+        start,
+        out,
+        &mut written,
+        &mut labels,
+        &mut more,
+    );
+    print::number(answer as u64);
+    print::number(labels as u64);
+    print_more(answer, more);
+    print::bytes_written(out, written);
+}

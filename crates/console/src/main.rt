@@ -33,6 +33,7 @@ fn look(line: Line, state: &[u8], store: &[u8], args: &[u8], out: &mut [u8]) {
     let command = line.command;
     match command {
         parse::LIST => commands::list(state, store, out),
+        parse::PAGE => commands::page(state, store, args, out),
         parse::LOOKUP => lookup::look_up(state, store, args),
         parse::KEY => formats::write_key(line.first, line.second, args, out),
         parse::READ_KEY => formats::read_key(args),

@@ -114,23 +114,25 @@ unfolding linesOf prepend
 lines-of-label l d [] = refl
 lines-of-label l d (c ∷ cs) = rw (lines-of-label l c cs, ap isEq (bytesLawful .self l))
 
+-- an entry of another label than all lines
+pub new-line : (e : Entry) (rs : List Line) → (e .label ∈ lineLabels rs → ⊥) → prepend e rs ≡ record { label = e .label; dots = e .dot ∷ [] } ∷ rs
+unfolding prepend
+new-line e [] n = refl
+new-line e (r ∷ rs) n = by-test (isEq (compareBytes (e .label) (r .label))) refl
+  where
+    by-test : (b : Bool) → isEq (compareBytes (e .label) (r .label)) ≡ b → prependTo b e r rs ≡ record { label = e .label; dots = e .dot ∷ [] } ∷ r ∷ rs
+    by-test true q = absurd (n (List·Memᴰ·head (bytesLawful .tie (e .label) (r .label) (tie-is (compareBytes (e .label) (r .label)) (pass q)))))
+    by-test false q = refl
+
 pub lines-append : (es ks : List Entry) → ((e k : Entry) → e ∈ es → k ∈ ks → e .label ≡ k .label → ⊥) → linesOf (es ++ ks) ≡ linesOf es ++ linesOf ks
 unfolding linesOf prepend
 lines-append [] ks apart = refl
 lines-append (e ∷ es) ks apart = ap (prepend e) (lines-append es ks (λ x k m. apart x k (List·Memᴰ·tail m))) ∙ split (linesOf es)
   where
-    new-line : (rs : List Line) → (e .label ∈ lineLabels rs → ⊥) → prepend e rs ≡ record { label = e .label; dots = e .dot ∷ [] } ∷ rs
-    new-line [] n = refl
-    new-line (r ∷ rs) n = by-test (isEq (compareBytes (e .label) (r .label))) refl
-      where
-        by-test : (b : Bool) → isEq (compareBytes (e .label) (r .label)) ≡ b → prependTo b e r rs ≡ record { label = e .label; dots = e .dot ∷ [] } ∷ r ∷ rs
-        by-test true q = absurd (n (List·Memᴰ·head (bytesLawful .tie (e .label) (r .label) (tie-is (compareBytes (e .label) (r .label)) (pass q)))))
-        by-test false q = refl
-
     into-line : (b : Bool) (r : Line) (rs us : List Line) → prependTo b e r (rs ++ us) ≡ prependTo b e r rs ++ us
     into-line true r rs us = refl
     into-line false r rs us = refl
 
     split : (rs : List Line) → prepend e (rs ++ linesOf ks) ≡ prepend e rs ++ linesOf ks
-    split [] = new-line (linesOf ks) (λ m. let w = label-of-line (e .label) ks m in apart e (w .0) (List·Memᴰ·head refl) (w .1) (w .2))
+    split [] = new-line e (linesOf ks) (λ m. let w = label-of-line (e .label) ks m in apart e (w .0) (List·Memᴰ·head refl) (w .1) (w .2))
     split (r ∷ rs) = into-line (isEq (compareBytes (e .label) (r .label))) r rs (linesOf ks)

@@ -20,6 +20,8 @@ pub const COMPACT: u8 = b'c';
 
 pub const LIST: u8 = b'l';
 
+pub const PAGE: u8 = b'p';
+
 pub const LOOKUP: u8 = b'u';
 
 pub const KEY: u8 = b'k';
@@ -147,7 +149,7 @@ fn place_of(table: &[u8], text: &[u8]) -> usize {
 // Reads a command. The table has the words of each, its letter, and the kinds of the fields after its first word.
 fn read_command(text: &[u8], args: &mut [u8; ARGUMENTS_MAX]) -> Line {
     let table =
-        b"setup:sbT;add:aTDo;remove:rDo;take:tH;compact:c;list:lo;lookup:uT;key:kkTTBNo;readkey:yH;readmessage:mH;state:e;store:o;buffer:blb;poke used:UwN;poke actor:AwB;poke name:NwM;poke namelen:LwN;poke base:BwrN;poke window:WwrN;poke dot:DwsBN;poke count:CwN;poke byte:YwnB;poke:?p";
+        b"setup:sbT;add:aTDo;remove:rDo;take:tH;compact:c;list:lo;page:pTo;lookup:uT;key:kkTTBNo;readkey:yH;readmessage:mH;state:e;store:o;buffer:blb;poke used:UwN;poke actor:AwB;poke name:NwM;poke namelen:LwN;poke base:BwrN;poke window:WwrN;poke dot:DwsBN;poke count:CwN;poke byte:YwnB;poke:?p";
     if text.len() == 0 {
         return blank(why::NO_WORD);
     }

@@ -92,11 +92,16 @@ pub fn dots(s: &[u8], count: usize) {
     }
 }
 
-// A number and what was written to an output. The bytes past it must be as they were before the call.
-pub fn output(n: u64, out: &[u8], written: usize) {
-    number(n);
+// What was written to an output. The bytes past it must be as they were before the call.
+pub fn bytes_written(out: &[u8], written: usize) {
     hex(parts::front(out, written));
     if !parts::is_filled(parts::from(out, written), OUT_FILL) {
         text(b" output-changed");
     }
+}
+
+// A number and what was written to an output.
+pub fn output(n: u64, out: &[u8], written: usize) {
+    number(n);
+    bytes_written(out, written);
 }

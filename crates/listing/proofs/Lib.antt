@@ -1,4 +1,6 @@
--- Listings: lines from left to right, and their bytes. OpenLines: a listing up to a key, its bytes written. ListedKeys: a listing's walk over keys.
+-- Listings: the lines of entries, and their bytes. ListedKeys: a walk over keys. LineWalks: a walk over the keys of one label. Folds: lines one after the other.
 pub mod Listings
-pub mod OpenLines
 pub mod ListedKeys
+pub mod LineWalks
+pub mod PutLines
+pub mod Folds

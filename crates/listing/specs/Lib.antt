@@ -1,3 +1,3 @@
--- Listing: the lines of a store and their bytes. Writing: a listing from left to right.
+-- Listing: the lines of a store and their bytes. Lines: the line at the front of keys, and what its keys say.
 pub mod Listing
-pub mod Writing
+pub mod Lines

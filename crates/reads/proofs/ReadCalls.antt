@@ -1,14 +1,14 @@
 -- Listing and lookup: what they may count on in an undamaged state, and what they then give. Assumes nothing.
-use Prim.Native.Nat.{ℕ, _+_, _-_, _≤_}
+use Prim.Native.Nat.{ℕ, _+_, _-_, _≤_, _<_}
 use denote.Ref.{RefT}
 use mathlib.Core.Path.{_≡_, refl, sym, ap, _∙_}
 use mathlib.Core.Bool.{Bool, true, false, not, cond}
 use mathlib.Core.List.{List, [], _∷_}
 use native.Mathlib.Omega.{arith}
-use lib.Dec.{eqb, isEq}
+use lib.Dec.{ltb, eqb, isEq}
 use lib.ListN.{length, take, drop, length-drop}
 use lib.Seq.{length-take-le, take-take}
-use borrow.Author.Tests.{leb-true, ne-eqb}
+use borrow.Author.Tests.{leb-true, ltb-true, ltb-false, lt-ltb, le-ltb, ne-eqb}
 use Rattle.wire.specs.Lists.{consIf, keep, any, all, member}
 use Rattle.wire.specs.Bytes.{Bytes, compareBytes, partAt, startsWith, IsPart}
 use Rattle.wire.proofs.Tests.{both, both-ways, pass}
@@ -25,22 +25,24 @@ use Rattle.keys.specs.Entry.{entryOk}
 use Rattle.store.specs.Cut.{storeBytes, keysOf, entriesIn}
 use Rattle.store.specs.Valid.{keysFit}
 use Rattle.store.specs.Place.{lengthWhile, lowerThan, placeIn, labelStart, stretchStart, stretchEnd}
-use Rattle.listing.specs.Listing.{listingBytes}
+use Rattle.listing.specs.declared.LinesPut.{LinesPut}
+use Rattle.listing.specs.Listing.{lineSize, listingBytes, StoredKeys, PutsLines, wantedLines, PutsWanted}
+use Rattle.listing.proofs.Folds.{fitting-all}
 use Rattle.store.proofs.Cut.{endToEnd-keysOf}
 use Rattle.store.proofs.Inserted.{while-within}
 use Rattle.store.proofs.RoundTrip.{UsedEntries, keys-fit, entries-written}
 use Rattle.store.proofs.Stretches.{stretch-start, stretch-end, stretch-bytes}
 use Rattle.replica.specs.Machine.{listing, found}
 use Rattle.calls.specs.declared.State.{State}
-use Rattle.calls.specs.declared.Listed.{Listed}
 use Rattle.calls.specs.State.{clockModel, nameOf, tombstoneDots, usedPart, entries, view, Sized}
 use Rattle.calls.specs.Damage.{stateNameOk, tombstoneOk, damaged}
-use Rattle.calls.specs.Effect.{putOut}
+use Rattle.wire.proofs.Fields.{put-front}
+use Rattle.replica.specs.Page.{fitting}
 use Rattle.calls.specs.Refusals.{badLabel, outputShort}
 use Rattle.steps.specs.Tests.{earlyRefusals}
-use Rattle.calls.specs.Calls.{refused, listResult, Looked, notLooked, lowerLabels, sameLabel, bytesOf, lookupRefusals, lookupDone, lookupResult}
+use Rattle.calls.specs.Calls.{refused, linesPut, listResult, Looked, notLooked, lowerLabels, sameLabel, bytesOf, lookupRefusals, lookupDone, lookupResult}
 use Rattle.calls.specs.Promise.{Lists, LooksUp}
-use Rattle.reads.specs.Reads.{Readable, linesIn, ListsLines}
+use Rattle.reads.specs.Reads.{Readable, linesIn, putAnswer}
 use Rattle.calls.proofs.Clauses.{undamaged, used-fits, store-fits, entries-of}
 
 -- ---- what they count on
@@ -60,15 +62,23 @@ pub tombstone-ascends : (st : State) (store : Bytes) → damaged st store ≡ fa
 unfolding tombstoneOk
 tombstone-ascends st store f = let t = undamaged st store f .tombstone in search both
 
-pub readable : (st : State) (store : Bytes) → Sized st → damaged st store ≡ false
-    → Readable (st .name .len) (st .used) (st .tombstone .count) store (st .tombstone .bytes)
-readable st store sized f =
+-- the used part of an undamaged store
+pub stored-keys : (st : State) (store : Bytes) → Sized st → damaged st store ≡ false → StoredKeys (st .name .len) (usedPart st store)
+stored-keys st store sized f =
+    let n : st .name .len ≡ length (nameOf st) = sym (name-size st store sized f) in
+    let u = entries-of st store (undamaged st store f) in
+    rw n (record { name = nameOf st; named = refl; written = u .written; valid = u .valid; ascend = u .ascend })
+
+pub readable : (st : State) (store keys : Bytes) → Sized st → damaged st store ≡ false → StoredKeys (st .name .len) keys → length keys ≤ length (usedPart st store)
+    → Readable (st .name .len) keys (st .tombstone .bytes) (st .tombstone .count)
+readable st store keys sized f stored within =
     let u = undamaged st store f in
+    let most = store-fits st store u in
+    let used = used-fits st store u in
     record {
       short-name = name-most st store f;
-      used-fits = used-fits st store u;
-      store-fits = store-fits st store u;
-      keys-fit = rw (name-size st store sized f) at (entries-of st store u .fit);
+      keys-short = omega (arith, length-take-le (st .used) store used);
+      stored = stored;
       tomb = record { size = sized .tombstone-size; few = tombstone-most st store f; ascends = tombstone-ascends st store f };
     }
 
@@ -78,23 +88,43 @@ pub damaged-listing : (st : State) (store out : Bytes) → damaged st store ≡ 
 unfolding listResult
 damaged-listing st store out d = rw d (record { answered = refl; written-is = refl; labels-are = refl; out-is = refl })
 
--- the answer of refusal 13, and what goes with it
-lists-or-short : (st : State) (store out out′ : Bytes) (ls : List Line) (r : Listed) (short : Bool)
-    → r .answer ≡ cond short OutputShort Done → r .written ≡ cond short 0 (length (listingBytes ls)) → r .labels ≡ cond short 0 (length ls)
-    → out′ ≡ cond short out (putOut (listingBytes ls) out)
-    → Lists (cond (eqb (numberOf (cond short OutputShort Done)) 0) (record { answer = Done; state = st; store = store; out = putOut (listingBytes ls) out; written = length (listingBytes ls); labels = length ls })
-    (refused st store out (cond short OutputShort Done))) out′ r
-lists-or-short st store out out′ ls r true a w l o = record { answered = a; written-is = w; labels-are = l; out-is = o }
-lists-or-short st store out out′ ls r false a w l o = record { answered = a; written-is = w; labels-are = l; out-is = o }
+-- all lines are put, or none and the answer is 13
+lists-or-short : (st : State) (store out out′ : Bytes) (ls : List Line) (put : LinesPut) (short : Bool) → outputShort out (listingBytes ls) ≡ short → PutsWanted true ls out out′ put
+    → Lists (cond (eqb (numberOf (cond short OutputShort Done)) 0) (linesPut st store out ls) (refused st store out (cond short OutputShort Done))) out′
+    (record { answer = putAnswer put; written = put .bytes; labels = put .labels })
+unfolding putAnswer wantedLines listingBytes
+lists-or-short st store out out′ ls put true e p =
+    let w : PutsLines ls [] out out′ put = rw e at p in
+    let some : ltb 0 (length ls) ≡ true = some-lines ls (ltb-true (length out) (length (listingBytes ls)) e) in
+    let more : put .more ≡ true = w .more-is ∙ some in
+    record {
+      answered = rw (more, w .labels-are);
+      written-is = w .bytes-are;
+      labels-are = w .labels-are;
+      out-is = w .out-is ∙ put-front out [];
+    }
+  where
+    some-lines : (ks : List Line) → length out < length (listingBytes ks) → ltb 0 (length ks) ≡ true
+    some-lines [] h = absurd (omega arith)
+    some-lines (k ∷ ks) h = lt-ltb 0 (length (k ∷ ks)) (omega arith)
+lists-or-short st store out out′ ls put false e p =
+    let all : fitting lineSize (length out) ls ≡ ls = fitting-all (length out) ls (ltb-false (length out) (length (listingBytes ls)) e) in
+    let w : PutsLines ls ls out out′ put = rw (e, all) at p in
+    let more : put .more ≡ false = w .more-is ∙ le-ltb (length ls) (length ls) (omega arith) in
+    record {
+      answered = rw more;
+      written-is = w .bytes-are;
+      labels-are = w .labels-are;
+      out-is = w .out-is ∙ put-front out (listingBytes ls);
+    }
 
-pub undamaged-listing : (st : State) (store out out′ : Bytes) (r : Listed) → Sized st → damaged st store ≡ false
-    → ListsLines (linesIn (st .name .len) (st .used) (st .tombstone .count) store (st .tombstone .bytes)) out out′ r
-    → Lists (listResult st store out) out′ r
+pub undamaged-listing : (st : State) (store out out′ : Bytes) (put : LinesPut) (answer : Answer) → Sized st → damaged st store ≡ false → answer ≡ putAnswer put
+    → PutsWanted true (linesIn (st .name .len) (usedPart st store) (st .tombstone .bytes) (st .tombstone .count)) out out′ put
+    → Lists (listResult st store out) out′ (record { answer = answer; written = put .bytes; labels = put .labels })
 unfolding listResult listing view
-undamaged-listing st store out out′ r named f l =
-    let ls : List Line = linesIn (st .name .len) (st .used) (st .tombstone .count) store (st .tombstone .bytes) in
-    rw (f, name-size st store named f)
-    (lists-or-short st store out out′ ls r (outputShort out (listingBytes ls)) (l .answered) (l .written-is) (l .labels-are) (l .out-is))
+undamaged-listing st store out out′ put answer sized f a p =
+    let ls : List Line = linesIn (st .name .len) (usedPart st store) (st .tombstone .bytes) (st .tombstone .count) in
+    rw (f, a, name-size st store sized f) (lists-or-short st store out out′ ls put (outputShort out (listingBytes ls)) refl p)
 
 -- ---- lookup
 

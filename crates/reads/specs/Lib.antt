@@ -1,2 +1,2 @@
--- Reads: what the calls that only read count on, and what a listing gives.
+-- Reads: what the calls that only read count on, and what lines put out give.
 pub mod Reads

@@ -1,56 +1,69 @@
 -- What the calls that only read count on, and what a listing gives, over the parts of a state. n is the length of the set's name.
 use Prim.Native.Nat.{ℕ, _*_, _≤_}
 use denote.Ref.{RefT}
-use mathlib.Core.Bool.{Bool, true, not, cond}
+use mathlib.Core.Bool.{Bool, true, false, not, cond, _&&_}
 use mathlib.Core.List.{List, _++_}
 use mathlib.Core.Path.{_≡_}
+use lib.Dec.{eqb, ltb}
 use lib.ListN.{length, take}
 use Rattle.wire.specs.Lists.{any, member}
 use Rattle.wire.specs.Bytes.{Bytes, IsPart}
+use Rattle.dots.specs.declared.Answer.{Answer}
 use Rattle.dots.specs.declared.Answer.the-variants.{Done, OutputShort}
 use Rattle.dots.specs.declared.Dot.{Dot}
-use Rattle.dots.specs.Names.{Label, nameMost, nameOk, labelOk}
+use Rattle.dots.specs.Names.{Name, Label, nameMost, nameOk, labelOk}
 use Rattle.dots.specs.Dots.{compareDots, ascendingDots, tombstoneMost}
 use Rattle.dots.specs.Wire.{dotsOf, dotSize}
 use Rattle.dots.specs.Entries.{Entry, Line}
 use Rattle.keys.specs.Entry.{prefix}
 use Rattle.store.specs.Cut.{entriesIn}
 use Rattle.store.specs.Valid.{storeMost, keysFit}
-use Rattle.store.specs.Place.{stretchStart, stretchEnd, Passed}
-use Rattle.listing.specs.Listing.{keyLines, listingBytes}
-use Rattle.calls.specs.declared.Listed.{Listed}
+use Rattle.store.specs.Place.{stretchStart, stretchEnd, Passed, LabelPassed}
+use Rattle.listing.specs.declared.LinesPut.{LinesPut}
+use Rattle.listing.specs.Listing.{keyLines, StoredKeys}
+use Rattle.calls.specs.declared.Paged.{Paged}
 use Rattle.calls.specs.declared.Tombstone.{Tombstone}
-use Rattle.calls.specs.Effect.{putOut}
-use Rattle.calls.specs.Refusals.{outputShort}
+use Rattle.calls.specs.Refusals.{badStart}
 use Rattle.steps.specs.Tests.{Tombstoned}
 
--- ---- listing
+-- ---- lines put out
 
--- keys end to end, and the dots of a tombstone, both of an undamaged state
-pub record ListableKeys (n : ℕ) (keys tombstone : Bytes) : Type 0 where
+-- stored keys, and the tombstone of an undamaged state
+pub record Readable (n : ℕ) (keys tombstone : Bytes) (count : ℕ) : Type 0 where
   pub short-name : n ≤ nameMost
   pub keys-short : length keys ≤ storeMost
-  pub keys-fit : keysFit n keys ≡ true
-  pub ascends : ascendingDots (dotsOf tombstone) ≡ true
-
--- store and tombstone of an undamaged state
-pub record Readable (n used count : ℕ) (store tombstone : Bytes) : Type 0 where
-  pub short-name : n ≤ nameMost
-  pub used-fits : used ≤ length store
-  pub store-fits : length store ≤ storeMost
-  pub keys-fit : keysFit n (take used store) ≡ true
+  pub stored : StoredKeys n keys
   pub tomb : Tombstoned tombstone count
 
 -- the lines of their listing
-abbrev pub linesIn : ℕ → ℕ → ℕ → Bytes → Bytes → List Line
-linesIn n used count store tombstone = keyLines n (take used store) (take (count * dotSize) tombstone)
+abbrev pub linesIn : ℕ → Bytes → Bytes → ℕ → List Line
+linesIn n keys tombstone count = keyLines n keys (take (count * dotSize) tombstone)
 
--- a listing of lines into out, which becomes out′: refusal 13, or the lines put out
-pub record ListsLines (ls : List Line) (out out′ : Bytes) (r : Listed) : Type 0 where
-  pub answered : r .answer ≡ cond (outputShort out (listingBytes ls)) OutputShort Done
-  pub written-is : r .written ≡ cond (outputShort out (listingBytes ls)) 0 (length (listingBytes ls))
-  pub labels-are : r .labels ≡ cond (outputShort out (listingBytes ls)) 0 (length ls)
-  pub out-is : out′ ≡ cond (outputShort out (listingBytes ls)) out (putOut (listingBytes ls) out)
+-- refusal 13, where lines are left and none was put
+unfoldable pub putAnswer : LinesPut → Answer
+putAnswer put = cond (put .more && eqb (put .labels) 0) OutputShort Done
+
+-- what a page gives of the lines put out
+unfoldable pub pagedOf : LinesPut → Paged
+pagedOf put = record { answer = putAnswer put; written = put .bytes; labels = put .labels; more = put .more && ltb 0 (put .labels) }
+
+-- ---- page
+
+-- where a page starts: past the keys of its starting label, and at the front for an empty one
+unfoldable pub pageStart : Name → Label → Bytes → ℕ
+pageStart name start bytes = cond (eqb (length start) 0) 0 (stretchEnd name start bytes)
+
+-- store and set name of an undamaged state, a starting label, and a number of used bytes that come before all its keys
+pub record Startable (store : Bytes) (used : ℕ) (name : Bytes) (len : ℕ) (start : Label) (low : ℕ) : Type 0 where
+  pub used-fits : used ≤ length store
+  pub name-fits : len ≤ length name
+  pub named : nameOk (take len name) ≡ true
+  pub started : badStart start ≡ false
+  pub passed : LabelPassed (take len name) start (take used store) low
+
+-- r is where a page starts in the used part of a store
+abbrev pub IsStart : Bytes → ℕ → Bytes → ℕ → Label → ℕ → Type 0
+IsStart store used name len start r = (r ≡ pageStart (take len name) start (take used store)) × (r ≤ used)
 
 -- ---- lookup
 

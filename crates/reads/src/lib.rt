@@ -1,57 +1,46 @@
-// The calls that only read: listing and lookup.
+// The calls that only read: listing, page and lookup.
 ghost use mathlib.Core.Path.{_≡_};
 ghost use mathlib.Core.Bool.{false};
 ghost use Rattle.wire.specs.Loans.{before, after};
 ghost use Rattle.dots.specs.Answer.{firstOf, numberOf};
-ghost use Rattle.listing.specs.Listing.{keyLines};
+ghost use Rattle.listing.specs.Listing.{PutsWanted};
 ghost use Rattle.steps.specs.Tests.{earlyRefusals};
-ghost use Rattle.calls.specs.Refusals.{badLabel};
+ghost use Rattle.calls.specs.Refusals.{badLabel, badStart};
 ghost use Rattle.calls.specs.Calls.{listResult};
-ghost use Rattle.calls.specs.Promise.{Lists, LooksUp};
-ghost use Rattle.reads.specs.Reads.{ListableKeys, Readable, linesIn, ListsLines, Searchable, IsStretch, LiveTestable, anyLive};
+ghost use Rattle.calls.specs.Promise.{Lists, PagesAfter, LooksUp};
+ghost use Rattle.reads.specs.Reads.{Readable, linesIn, putAnswer, Startable, IsStart, pagedOf, Searchable, IsStretch, LiveTestable, anyLive};
 
-// ---- listing
+// ---- lines put out
 
-// Lists keys end to end: refusal 13, or their lines put out.
-fn list_keys(n: usize, keys: &[u8], tombstone: &[u8], out: &mut [u8]) -> calls::Listed
-    requires { ⌜ ListableKeys n (now keys) (now tombstone) ⌝ }
-    ensures { λ r. ⌜ ListsLines (keyLines n (before keys) (before tombstone)) (before out) (after out) r ⌝ }
-{
-    let mut slots = [0u8; slots::SLOTS];
-    slots::fill_slots(tombstone, &mut slots);
-    if out.len() < keys.len() {
-        let size = listing::listing_size(n, keys, tombstone, &slots);
-        if out.len() < size.bytes {
-            return calls::Listed {
-                answer: dots::Answer::OutputShort,
-                written: 0,
-                labels: 0,
-            };
-        }
-    }
-    let size = listing::write_listing(n, keys, tombstone, &slots, out);
-    calls::Listed {
-        answer: dots::Answer::Done,
-        written: size.bytes,
-        labels: size.labels,
-    }
-}
-
-// Lists the used part of a store, with the first count dots of a tombstone.
-fn list_used(
+// Puts out the lines of keys that fit, with the first count dots of a tombstone; where all are wanted and do not fit, none.
+fn put_used(
     n: usize,
-    store: &[u8],
-    used: usize,
+    keys: &[u8],
     tombstone: &[u8],
     count: usize,
+    all: bool,
     out: &mut [u8],
-) -> calls::Listed
-    requires { ⌜ Readable n used count (now store) (now tombstone) ⌝ }
-    ensures { λ r. ⌜ ListsLines (linesIn n used count (before store) (before tombstone)) (before out) (after out) r ⌝ }
+) -> listing::LinesPut
+    requires { ⌜ Readable n (now keys) (now tombstone) count ⌝ }
+    ensures { λ r. ⌜ PutsWanted all (linesIn n (before keys) (before tombstone) count) (before out) (after out) r ⌝ }
 {
     let size = count * dots::DOT_SIZE;
-    list_keys(n, &store[..used], &tombstone[..size], out)
+    let mut slots = [0u8; slots::SLOTS];
+    slots::fill_slots(&tombstone[..size], &mut slots);
+    listing::put_wanted(n, keys, &tombstone[..size], &slots, all, out)
 }
+
+// Refusal 13, where lines are left and none was put, else 0.
+fn put_answer(put: listing::LinesPut) -> dots::Answer
+    ensures { λ r. ⌜ r ≡ putAnswer put ⌝ }
+{
+    if put.more & (put.labels == 0) {
+        return dots::Answer::OutputShort;
+    }
+    dots::Answer::Done
+}
+
+// ---- listing
 
 // Lists the labels.
 pub fn list(state: calls::State, store: &[u8], out: &mut [u8]) -> calls::Listed
@@ -69,7 +58,79 @@ pub fn list(state: calls::State, store: &[u8], out: &mut [u8]) -> calls::Listed
     let n = state.name.len;
     let used = state.used;
     let count = state.tombstone.count;
-    list_used(n, store, used, &tombstone, count, out)
+    let put = put_used(n, &store[..used], &tombstone, count, true, out);
+    calls::Listed {
+        answer: put_answer(put),
+        written: put.bytes,
+        labels: put.labels,
+    }
+}
+
+// ---- page
+
+// Whether a starting label breaks its rule; the empty one is the front.
+fn start_bad(start: &[u8]) -> bool
+    ensures { λ r. ⌜ r ≡ badStart (before start) ⌝ }
+{
+    if start.len() == 0 {
+        return false;
+    }
+    !dots::label_ok(start)
+}
+
+// Where a page starts in the used part of a store, for a set whose name is the first len bytes.
+fn page_start(store: &[u8], used: usize, name: &[u8], len: usize, start: &[u8], low: usize) -> usize
+    requires { ⌜ Startable (now store) used (now name) len (now start) low ⌝ }
+    ensures { λ r. ⌜ IsStart (before store) used (before name) len (before start) r ⌝ }
+{
+    if start.len() == 0 {
+        return 0;
+    }
+    let span = store::label_span(&store[..used], &name[..len], start, low);
+    span.at + span.len
+}
+
+// What a page gives of the lines put out.
+fn paged(put: listing::LinesPut) -> calls::Paged
+    ensures { λ r. ⌜ r ≡ pagedOf put ⌝ }
+{
+    calls::Paged {
+        answer: put_answer(put),
+        written: put.bytes,
+        labels: put.labels,
+        more: put.more & (0 < put.labels),
+    }
+}
+
+// Lists the labels after a starting one, as many as fit.
+pub fn page(state: calls::State, store: &[u8], start: &[u8], out: &mut [u8]) -> calls::Paged
+    ensures { λ r. ⌜ PagesAfter state (before store) (before start) (before out) (after out) r ⌝ }
+{
+    let head = judging::head_of(state);
+    let judged = judging::judge(
+        head,
+        &state.clock.words,
+        &state.tombstone.bytes,
+        store,
+        start,
+    );
+    let bad = start_bad(start);
+    let refusal = steps::early_answer(store::is_damage(judged), bad, false, false, false);
+    if dots::number_of(refusal) != 0 {
+        return calls::Paged {
+            answer: refusal,
+            written: 0,
+            labels: 0,
+            more: false,
+        };
+    }
+    let name = state.name.bytes;
+    let n = state.name.len;
+    let used = state.used;
+    let from = page_start(store, used, &name, n, start, store::front_of(judged));
+    let tombstone = state.tombstone.bytes;
+    let count = state.tombstone.count;
+    paged(put_used(n, &store[from..used], &tombstone, count, false, out))
 }
 
 // ---- lookup

@@ -1,9 +1,11 @@
 -- Cases: slips as runs of the machine. Shrinking: dropping keys leaves the listing. Invariant: what ties a state to the rule's sets, and that every accepted call keeps it. Listings: the rule's listing. Theorems: demand 3.
--- RowClock: demand 3 over the clock of 16 rows. Instance: the machine as a controller.
+-- Matching: tests of labels, of entries and of lines. Pages: pages of a listing. RowClock: demand 3 over the clock of 16 rows. Instance: the machine as a controller.
 pub mod Cases
 pub mod Shrinking
 pub mod Invariant
 pub mod Listings
 pub mod Theorems
+pub mod Matching
+pub mod Pages
 pub mod RowClock
 pub mod Instance

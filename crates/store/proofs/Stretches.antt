@@ -1,18 +1,18 @@
--- The stretch of a label in the bytes of ascending entries: where it starts and ends, and whose keys it holds. Assumes nothing.
+-- The stretch of a label in the bytes of ascending entries: where it starts and ends, whose keys it holds, and whose come after it. Assumes nothing.
 use mathlib.Core.Path.{_≡_, refl, sym, ap, _∙_}
 use mathlib.Core.Logic.{_⊎_, inl, inr}
-use mathlib.Core.Bool.{Bool, true, false, not, cond, _&&_, true≢false, false≢true}
+use mathlib.Core.Bool.{Bool, true, false, not, cond, _&&_, true≢false}
 use mathlib.Core.List.{List, [], _∷_, _++_, map, List·Memᴰ·head, List·Memᴰ·tail}
 use Prim.Native.Nat.{ℕ, _+_, _-_, _≤_, Ordering, Ordering·lt, Ordering·eq, Ordering·gt, compare}
 use native.Mathlib.Omega.{arith}
 use lib.Dec.{leb, isEq}
 use lib.ListN.{length, drop, length-append}
-use lib.Seq.{take-append-seam, drop-append-seam}
+use lib.Seq.{take-append-seam, drop-append-seam, drop-drop}
 use borrow.Author.Tests.{leb-true, ne-eqb}
 use Rattle.wire.specs.Lists.{_∈_, consIf, keep, all, then, isLt, compareLists, Less, Ascending}
 use Rattle.wire.specs.Bytes.{Bytes, bigEndian, compareBytes, partAt, startsWith}
 use Rattle.wire.proofs.Tests.{both, untrue, pass, holds}
-use Rattle.wire.proofs.Lists.{lt-is, tie-is, keep-member, all-member, member-all, ascending-keep}
+use Rattle.wire.proofs.Lists.{lt-is, tie-is, keep-member, keep-all, all-member, member-all, ascending-keep, irreflexive}
 use Rattle.wire.proofs.Orders.{bytesLawful, then-lt}
 use Rattle.wire.proofs.ByteOrder.{compare-common, compare-ended, starts-append, starts-itself}
 use Rattle.dots.specs.declared.Dot.{Dot}
@@ -39,11 +39,6 @@ module _ {A : Type 0} where
   keep-none p [] none = refl
   keep-none p (x ∷ xs) none = rw (none x (List·Memᴰ·head refl)) (keep-none p xs (λ y m. none y (List·Memᴰ·tail m)))
 
-  keep-all : (p : A → Bool) (xs : List A) → ((y : A) → y ∈ xs → p y ≡ false) → keep (λ (x : A). not (p x)) xs ≡ xs
-  unfolding keep
-  keep-all p [] none = refl
-  keep-all p (x ∷ xs) none = rw (none x (List·Memᴰ·head refl)) (ap (λ (t : List A). x ∷ t) (keep-all p xs (λ y m. none y (List·Memᴰ·tail m))))
-
   -- such a list is what passes, and then what does not
   keep-front : (p : A → Bool) (xs : List A) → FrontOnly p xs → keep p xs ++ keep (λ (x : A). not (p x)) xs ≡ xs
   unfolding keep
@@ -52,19 +47,19 @@ module _ {A : Type 0} where
     where
       by-test : (b : Bool) → p x ≡ b → keep p xs ++ keep (λ (y : A). not (p y)) xs ≡ xs → consIf b x (keep p xs) ++ consIf (not b) x (keep (λ (y : A). not (p y)) xs) ≡ x ∷ xs
       by-test true e rest = ap (λ (t : List A). x ∷ t) rest
-      by-test false e rest = let none : (y : A) → y ∈ xs → p y ≡ false = front .0 e in rw (keep-none p xs none, keep-all p xs none)
+      by-test false e rest = let none : (y : A) → y ∈ xs → p y ≡ false = front .0 e in rw (keep-none p xs none, keep-all (λ (y : A). not (p y)) xs (λ y m. ap not (none y m)))
 
-  -- what passes one test of what passes another that follows from it
-  keep-keep : (p q : A → Bool) (xs : List A) → ((x : A) → p x ≡ true → q x ≡ true) → keep p (keep q xs) ≡ keep p xs
+  -- what passes one test and then another
+  pub keep-keep : (p q r : A → Bool) → ((x : A) → r x ≡ (p x && q x)) → (xs : List A) → keep r xs ≡ keep q (keep p xs)
   unfolding keep
-  keep-keep p q [] sub = refl
-  keep-keep p q (x ∷ xs) sub = by-tests (q x) refl (keep-keep p q xs sub)
+  keep-keep p q r both [] = refl
+  keep-keep p q r both (x ∷ xs) = rw (both x, keep-keep p q r both xs) (by-test (p x))
     where
-      by-tests : (b : Bool) → q x ≡ b → keep p (keep q xs) ≡ keep p xs → keep p (consIf b x (keep q xs)) ≡ consIf (p x) x (keep p xs)
-      by-tests true e rest = ap (consIf (p x) x) rest
-      by-tests false e rest = rw (untrue (p x) (λ t. false≢true (sym e ∙ sub x t))) rest
+      by-test : (b : Bool) → consIf (b && q x) x (keep q (keep p xs)) ≡ keep q (consIf b x (keep p xs))
+      by-test true = refl
+      by-test false = refl
 
-  all-keep : (p q : A → Bool) (xs : List A) → all q xs ≡ true → all q (keep p xs) ≡ true
+  pub all-keep : (p q : A → Bool) (xs : List A) → all q xs ≡ true → all q (keep p xs) ≡ true
   all-keep p q xs h = member-all q (keep p xs) (λ x m. all-member q xs h x (keep-member p xs m .0))
 
 -- ---- the keys at the front that pass a test, as entries
@@ -83,7 +78,7 @@ module _ (name : Name) (test : Bytes → Bool) (p : Entry → Bool) (same : (e :
 -- ---- labels and the keys' bytes
 
 -- a text with its closing 0 begins what a text with its closing 0 begins if the texts are the same
-begins-ended : (l m t : Bytes) → all (leb 1) l ≡ true → all (leb 1) m ≡ true → startsWith (m ++ (0 ∷ [])) (l ++ (0 ∷ t)) ≡ isEq (compareBytes l m)
+pub begins-ended : (l m t : Bytes) → all (leb 1) l ≡ true → all (leb 1) m ≡ true → startsWith (m ++ (0 ∷ [])) (l ++ (0 ∷ t)) ≡ isEq (compareBytes l m)
 unfolding startsWith compareLists all
 begins-ended [] [] t h k = refl
 begins-ended [] (y ∷ m) t h k = let low : 1 ≤ y = leb-true 1 y (search both) in rw (ne-eqb 0 y (λ e. omega arith))
@@ -94,6 +89,14 @@ begins-ended (x ∷ l) (y ∷ m) t h k = rw (begins-ended l m t (search both) (s
     by-order Ordering·lt = refl
     by-order Ordering·eq = refl
     by-order Ordering·gt = refl
+
+-- labels of ascending entries
+pub labels-up : (e f : Entry) → Less compareEntries e f → Less compareBytes (e .label) (f .label) ⊎ (e .label ≡ f .label)
+labels-up e f h = by-cases (then-lt (compareBytes (e .label) (f .label)) (compareDots (e .dot) (f .dot)) h)
+  where
+    by-cases : Less compareBytes (e .label) (f .label) ⊎ ((compareBytes (e .label) (f .label) ≡ Ordering·eq) × (compareDots (e .dot) (f .dot) ≡ Ordering·lt)) → Less compareBytes (e .label) (f .label) ⊎ (e .label ≡ f .label)
+    by-cases (inl l) = inl l
+    by-cases (inr t) = inr (bytesLawful .tie (e .label) (f .label) (t .0))
 
 module _ (label : Label) where
   abbrev lower : Entry → Bool
@@ -124,14 +127,7 @@ module _ (label : Label) where
         rw (entry-key-parts, starts-append (prefix name) (label ++ (0 ∷ [])), starts-itself (prefix name) (e .label ++ suffix d), drop-append-seam (prefix name) (e .label ++ suffix d))
         (begins-ended (e .label) label (d .actor .number ∷ 0 ∷ bigEndian 8 (d .counter .number)) (text-nonzero labelMost (e .label) (search both)) (text-nonzero labelMost label ok))
 
-  -- ---- labels of ascending entries
-
-  labels-up : (e f : Entry) → Less compareEntries e f → Less compareBytes (e .label) (f .label) ⊎ (e .label ≡ f .label)
-  labels-up e f h = by-cases (then-lt (compareBytes (e .label) (f .label)) (compareDots (e .dot) (f .dot)) h)
-    where
-      by-cases : Less compareBytes (e .label) (f .label) ⊎ ((compareBytes (e .label) (f .label) ≡ Ordering·eq) × (compareDots (e .dot) (f .dot) ≡ Ordering·lt)) → Less compareBytes (e .label) (f .label) ⊎ (e .label ≡ f .label)
-      by-cases (inl l) = inl l
-      by-cases (inr t) = inr (bytesLawful .tie (e .label) (f .label) (t .0))
+  -- ---- entries of lower labels, and of the label
 
   lower-front : (es : List Entry) → Ascending compareEntries es → FrontOnly lower es
   lower-front [] up = tt
@@ -153,8 +149,22 @@ module _ (label : Label) where
       there f y t (inl l) = let first : not (lower e) ≡ true = search both in true≢false (sym first ∙ ap not (ap isLt (ap (compareBytes (e .label)) (sym (is-label y t)) ∙ l)))
       there f y t (inr q) = true≢false (sym t ∙ ap (λ (l : Label). isEq (compareBytes l label)) (sym q) ∙ f)
 
-  same-not-lower : (e : Entry) → same e ≡ true → not (lower e) ≡ true
-  same-not-lower e t = ap (λ (o : Ordering). not (isLt o)) (tie-is (compareBytes (e .label) label) (pass t))
+  -- those of the label are not lower, and those that are neither are after it
+  same-not-lower : (e : Entry) → same e ≡ (not (lower e) && same e)
+  same-not-lower e = by-order (compareBytes (e .label) label)
+    where
+      by-order : (o : Ordering) → isEq o ≡ (not (isLt o) && isEq o)
+      by-order Ordering·lt = refl
+      by-order Ordering·eq = refl
+      by-order Ordering·gt = refl
+
+  after-neither : (e : Entry) → isLt (compareBytes label (e .label)) ≡ (not (lower e) && not (same e))
+  after-neither e = by-order (compareBytes (e .label) label) refl
+    where
+      by-order : (o : Ordering) → compareBytes (e .label) label ≡ o → isLt (compareBytes label (e .label)) ≡ (not (isLt o) && not (isEq o))
+      by-order Ordering·lt q = untrue _ (λ t. irreflexive compareBytes bytesLawful (e .label) (bytesLawful .chain (e .label) label (e .label) q (lt-is _ t)))
+      by-order Ordering·eq q = rw (bytesLawful .tie (e .label) label q, bytesLawful .self label)
+      by-order Ordering·gt q = rw (bytesLawful .turn (e .label) label q)
 
   -- ---- the stretch
 
@@ -173,7 +183,7 @@ module _ (label : Label) where
 
     same-later : keep same later ≡ keep same es
     unfolding later
-    same-later = keep-keep same (λ (e : Entry). not (lower e)) es same-not-lower
+    same-later = sym (keep-keep (λ (e : Entry). not (lower e)) same same same-not-lower es)
 
     pub stretch-start : stretchStart name label (storeBytes name es) ≡ length (storeBytes name (keep (λ (e : Entry). isLt (compareBytes (e .label) label)) es))
     unfolding stretchStart
@@ -192,9 +202,21 @@ module _ (label : Label) where
         ap (λ (n : ℕ). stretchStart name label (storeBytes name es) + n)
         (rw (from-start, keys-written name later later-valid, while-kept name (startsWith (labelStart name label)) same (begins-key name ok) later later-valid later-front, same-later))
 
+    -- the stretch, and what follows it
+    own-rest : storeBytes name later ≡ storeBytes name (keep same later) ++ storeBytes name (keep (λ (e : Entry). not (same e)) later)
+    own-rest = ap (storeBytes name) (sym (keep-front same later later-front)) ∙ store-append name (keep same later) (keep (λ (e : Entry). not (same e)) later)
+
     pub stretch-bytes : partAt (storeBytes name es) (stretchStart name label (storeBytes name es)) (stretchEnd name label (storeBytes name es) - stretchStart name label (storeBytes name es))
         ≡ storeBytes name (keep (λ (e : Entry). isEq (compareBytes (e .label) label)) es)
     stretch-bytes =
         let size : stretchEnd name label (storeBytes name es) - stretchStart name label (storeBytes name es) ≡ length (storeBytes name (keep same later)) = rw (stretch-end, same-later) (omega arith) in
-        let split : storeBytes name later ≡ storeBytes name (keep same later) ++ storeBytes name (keep (λ (e : Entry). not (same e)) later) = ap (storeBytes name) (sym (keep-front same later later-front)) ∙ store-append name (keep same later) (keep (λ (e : Entry). not (same e)) later) in
-        rw (from-start, size, split, take-append-seam) (ap (storeBytes name) same-later)
+        rw (from-start, size, own-rest, take-append-seam) (ap (storeBytes name) same-later)
+
+    -- past it come the keys of the labels after it
+    pub past-stretch : drop (stretchEnd name label (storeBytes name es)) (storeBytes name es) ≡ storeBytes name (keep (λ (e : Entry). isLt (compareBytes label (e .label))) es)
+    unfolding later
+    past-stretch =
+        let end : drop (stretchEnd name label (storeBytes name es)) (storeBytes name es) ≡ drop (length (storeBytes name (keep same later))) (drop (stretchStart name label (storeBytes name es)) (storeBytes name es)) =
+        rw (stretch-end, same-later, drop-drop) in
+        rw (end, from-start, own-rest, drop-append-seam)
+        (ap (storeBytes name) (sym (keep-keep (λ (e : Entry). not (lower e)) (λ (e : Entry). not (same e)) (λ (e : Entry). isLt (compareBytes label (e .label))) after-neither es)))

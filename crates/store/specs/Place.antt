@@ -6,7 +6,8 @@ use mathlib.Core.Path.{_≡_}
 use lib.ListN.{length, take, drop, replicate}
 use Rattle.wire.specs.Lists.{isLt, all}
 use denote.Ref.{RefT}
-use Rattle.wire.specs.Bytes.{Bytes, compareBytes, startsWith, putAt, insertedAt, fromBigEndian, IsPart}
+use Rattle.wire.specs.declared.Span.{Span}
+use Rattle.wire.specs.Bytes.{Bytes, endOf, compareBytes, startsWith, putAt, insertedAt, fromBigEndian, IsPart}
 use Rattle.dots.specs.Names.{Name, Label, nameOk, labelOk}
 use Rattle.dots.specs.Entries.{Entry}
 use Rattle.keys.specs.Entry.{prefix, entryKey}
@@ -101,10 +102,15 @@ stretchStart name label bytes = placeIn (labelStart name label) (keysOf (length 
 unfoldable pub stretchEnd : Name → Label → Bytes → ℕ
 stretchEnd name label bytes = endFrom (length name) bytes (labelStart name label) (stretchStart name label bytes)
 
--- r is the very stretch of keys that begin with `start`, and of a label's keys
-abbrev pub IsStretchFrom : ℕ → RefT Bytes → Bytes → RefT Bytes → Type 0
-IsStretchFrom n keys start r = let at = placeIn start (keysOf n (keys .now)) in IsPart keys at (endFrom n (keys .now) start at) r
+-- p is where the keys are that begin with `start`, and where a label's keys are
+abbrev pub IsSpanFrom : ℕ → Bytes → Bytes → Span → Type 0
+IsSpanFrom n keys start p =
+    (p .at ≡ placeIn start (keysOf n keys)) × (p .len ≡ lengthWhile (startsWith start) (keysOf n (drop (p .at) keys))) × (endOf p ≤ length keys)
 
+abbrev pub IsSpan : Name → Label → Bytes → Span → Type 0
+IsSpan name label keys p = (p .at ≡ stretchStart name label keys) × (endOf p ≡ stretchEnd name label keys) × (endOf p ≤ length keys)
+
+-- r is the very stretch of a label's keys
 abbrev pub IsStretch : Name → Label → RefT Bytes → RefT Bytes → Type 0
 IsStretch name label keys r = IsPart keys (stretchStart name label (keys .now)) (stretchEnd name label (keys .now)) r
 

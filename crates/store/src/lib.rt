@@ -11,7 +11,7 @@ ghost use Rattle.dots.specs.Entries.{entry};
 ghost use Rattle.keys.specs.Entry.{prefix};
 ghost use Rattle.store.specs.Cut.{keyLength, keysOf, keyDot};
 ghost use Rattle.store.specs.Place.{lengthWhile, placeIn, labelNumber, LabelPassed, PlacePast, PlaceAmongAlike};
-ghost use Rattle.store.specs.Place.{isSound, frontOf, KeysJudged, StoreJudged, IsStretchFrom, IsStretch};
+ghost use Rattle.store.specs.Place.{isSound, frontOf, KeysJudged, StoreJudged, IsSpanFrom, IsSpan, IsStretch};
 ghost use Rattle.store.specs.Place.{LabelStartPut, KeyPut, insertedKey, EntryHasPlace, EntryInserted};
 ghost use Rattle.store.specs.Front.{afterLength, frontLength, TailIn, tailOf};
 ghost use Rattle.keys.specs.Key.{labelKeyFixed, prefixFixed, suffixSize};
@@ -371,24 +371,35 @@ fn run(n: usize, keys: &[u8], start: &[u8]) -> usize
     at
 }
 
-// The very stretch of the keys that begin with `start`, from its place on.
-fn stretch_from<'a, 'b>(n: usize, keys: &'a [u8], start: &'b [u8], low: usize) -> &'a [u8]
+// Where the keys are that begin with `start`, from its place on.
+fn span_from(n: usize, keys: &[u8], start: &[u8], low: usize) -> wire::Span
     requires { ⌜ (n ≤ nameMost) × PlacePast n (now keys) (now start) low ⌝ }
-    ensures { λ r. ⌜ IsStretchFrom n (keys .entry) (before start) r ⌝ }
+    ensures { λ r. ⌜ IsSpanFrom n (before keys) (before start) r ⌝ }
 {
     let at = place(n, keys, start, low);
-    let end = at + run(n, &keys[at..], start);
-    &keys[at..end]
+    let len = run(n, &keys[at..], start);
+    wire::Span { at: at, len: len }
 }
 
-// The very stretch of the keys of a label, which is not among the first `low` bytes; the empty one at the place they would go if there are none.
+// Where the keys of a label are, none of which is among the first `low` bytes; no bytes at the place they would go if there are none.
+pub fn label_span(keys: &[u8], name: &[u8], label: &[u8], low: usize) -> wire::Span
+    requires { ⌜ (nameOk (now name) ≡ true) × (labelOk (now label) ≡ true) × LabelPassed (now name) (now label) (now keys) low ⌝ }
+    ensures { λ r. ⌜ IsSpan (before name) (before label) (before keys) r ⌝ }
+{
+    let mut start = [0; LABEL_START_MOST];
+    let len = put_label_start(&mut start, name, label);
+    span_from(name.len(), keys, &start[..len], low)
+}
+
+// The very stretch of the keys of a label.
 pub fn stretch<'a, 'b>(keys: &'a [u8], name: &'b [u8], label: &'b [u8], low: usize) -> &'a [u8]
     requires { ⌜ (nameOk (now name) ≡ true) × (labelOk (now label) ≡ true) × LabelPassed (now name) (now label) (now keys) low ⌝ }
     ensures { λ r. ⌜ IsStretch (before name) (before label) (keys .entry) r ⌝ }
 {
-    let mut start = [0; LABEL_START_MOST];
-    let len = put_label_start(&mut start, name, label);
-    stretch_from(name.len(), keys, &start[..len], low)
+    let span = label_span(keys, name, label, low);
+    let at = span.at;
+    let end = at + span.len;
+    &keys[at..end]
 }
 
 // ---- what a key says

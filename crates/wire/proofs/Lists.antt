@@ -50,6 +50,11 @@ module _ {A : Type 0} where
         step false e below (inl q) = absurd (fail (ap p q ∙ e) t)
         step false e below (inr m′) = below m′
 
+    pub keep-all : (ys : List A) → ((y : A) → y ∈ ys → p y ≡ true) → keep p ys ≡ ys
+    unfolding keep
+    keep-all [] h = refl
+    keep-all (y ∷ ys) h = rw (h y (List·Memᴰ·head refl)) (ap (λ (t : List A). y ∷ t) (keep-all ys (λ z m. h z (List·Memᴰ·tail m))))
+
     pub any-member : {x : A} (ys : List A) → x ∈ ys → T (p x) → T (any p ys)
     unfolding any
     any-member [] m t = absurd (List·Memᴰ·not-nil m)

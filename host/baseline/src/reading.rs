@@ -1,10 +1,11 @@
-//! The calls that only read a controller: listing and lookup.
+//! The calls that only read a controller: listing, paged listing and lookup.
 
 use crate::answer::{BAD_NAME, DONE, OUTPUT_SHORT};
 use crate::block::Block;
 use crate::check::Sound;
+use crate::dot::Dot;
 use crate::keys::label_keeps_rule;
-use crate::store::{keys, stretch, Key};
+use crate::store::{first_run, keys, stretch, Key};
 use crate::tombstone::Tombstone;
 use limits::{DOT_COUNT_SIZE, DOT_SIZE, LINE_FIXED};
 
@@ -14,6 +15,15 @@ pub struct Listed {
     pub answer: u8,
     pub written: usize,
     pub labels: usize,
+}
+
+/// What a page gives.
+#[derive(Clone, Copy, PartialEq, Eq, Debug, Default)]
+pub struct Paged {
+    pub answer: u8,
+    pub written: usize,
+    pub labels: usize,
+    pub more: bool,
 }
 
 /// What lookup gives: where the label's keys stand in the store, and whether it is listed.
@@ -73,9 +83,7 @@ fn write_listing<'a>(live: impl Iterator<Item = Key<'a>>, out: &mut [u8]) -> (us
             label = key.label();
             labels += 1;
             number = 0;
-            number_at = at + 1 + label.len();
-            out[at] = label.len() as u8;
-            out[at + 1..number_at].copy_from_slice(label);
+            number_at = write_label(label, at, out);
             at = number_at + DOT_COUNT_SIZE;
         }
         number += 1;
@@ -84,6 +92,85 @@ fn write_listing<'a>(live: impl Iterator<Item = Key<'a>>, out: &mut [u8]) -> (us
         at += DOT_SIZE;
     }
     (at, labels)
+}
+
+/// Writes a label's length and the label; where the number of its dots goes.
+fn write_label(label: &[u8], at: usize, out: &mut [u8]) -> usize {
+    let end = at + 1 + label.len();
+    out[at] = label.len() as u8;
+    out[at + 1..end].copy_from_slice(label);
+    end
+}
+
+/// Paged listing: answers 1, 5, 13.
+pub fn page(block: &Block, store: &[u8], start: &[u8], out: &mut [u8]) -> Paged {
+    try_page(block, store, start, out).unwrap_or_else(|answer| Paged {
+        answer,
+        ..Paged::default()
+    })
+}
+
+fn try_page(block: &Block, store: &[u8], start: &[u8], out: &mut [u8]) -> Result<Paged, u8> {
+    let sound = Sound::read(block, store)?;
+    if !start.is_empty() && !label_keeps_rule(start) {
+        return Err(BAD_NAME);
+    }
+    let (used, prefix) = (&store[..sound.used], sound.prefix.len());
+    let from = match start.is_empty() {
+        true => 0,
+        false => stretch(used, prefix, start).1,
+    };
+    let dead = Tombstone::of(block, sound.count);
+    let page = write_page(&used[from..], prefix, dead, out);
+    match page.more && page.labels == 0 {
+        true => Err(OUTPUT_SHORT),
+        false => Ok(page),
+    }
+}
+
+/// Writes as many whole entries of these keys as fit.
+fn write_page(keys: &[u8], prefix: usize, dead: Tombstone, out: &mut [u8]) -> Paged {
+    let mut page = Paged::default();
+    let mut rest = keys;
+    while let Some(run) = first_run(rest, prefix) {
+        let live = run.dots().filter(|dot| dead.is_empty() || !dead.has(*dot));
+        let room = &mut out[page.written..];
+        // Live dots are counted only where there is no room for all.
+        if entry_length(run.label, run.number()) > room.len() {
+            let number = live.clone().count();
+            page.more = number > 0 && entry_length(run.label, number) > room.len();
+        }
+        if page.more {
+            break;
+        }
+        let written = write_entry(run.label, live, room);
+        page.written += written;
+        page.labels += usize::from(written > 0);
+        rest = &rest[run.keys.len()..];
+    }
+    page
+}
+
+fn entry_length(label: &[u8], dots: usize) -> usize {
+    label.len() + LINE_FIXED + dots * DOT_SIZE
+}
+
+/// Writes an entry, for which there is room; its length. Without dots there is none,
+/// and no room is needed.
+fn write_entry(label: &[u8], dots: impl Iterator<Item = Dot>, out: &mut [u8]) -> usize {
+    let dots_at = entry_length(label, 0);
+    let places = out.get_mut(dots_at..).unwrap_or_default();
+    let mut number = 0;
+    for (place, dot) in places.chunks_exact_mut(DOT_SIZE).zip(dots) {
+        place.copy_from_slice(&dot.to_bytes());
+        number += 1;
+    }
+    if number == 0 {
+        return 0;
+    }
+    let number_at = write_label(label, 0, out);
+    out[number_at..dots_at].copy_from_slice(&(number as u16).to_be_bytes());
+    entry_length(label, number)
 }
 
 /// Lookup: answers 1, 5.

@@ -91,6 +91,39 @@ impl<'a> Iterator for Keys<'a> {
     }
 }
 
+/// A label and all its keys, which stand end to end and have one length.
+pub struct Run<'a> {
+    pub label: &'a [u8],
+    pub keys: &'a [u8],
+    length: usize,
+}
+
+impl Run<'_> {
+    pub fn number(&self) -> usize {
+        self.keys.len() / self.length
+    }
+
+    pub fn dots(&self) -> impl Iterator<Item = Dot> + Clone + '_ {
+        self.keys.chunks_exact(self.length).filter_map(dot_of)
+    }
+}
+
+/// The first label of a sound store.
+pub fn first_run(used: &[u8], prefix: usize) -> Option<Run<'_>> {
+    let first = keys(used, prefix).next()?;
+    let (label, length) = (first.label(), prefix + first.tail.len());
+    let front = &used[..prefix + label.len() + 1];
+    let same = used
+        .chunks_exact(length)
+        .take_while(|key| key.starts_with(front));
+    let keys = &used[..same.count() * length];
+    Some(Run {
+        label,
+        keys,
+        length,
+    })
+}
+
 /// Where a key with this tail goes.
 pub fn place(used: &[u8], prefix: usize, tail: &[u8]) -> usize {
     let above = keys(used, prefix).find(|key| key.tail > tail);

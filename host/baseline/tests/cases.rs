@@ -79,6 +79,15 @@ impl Rack {
         (out, listed.labels)
     }
 
+    /// A page: its answer, bytes, number of labels, and whether more follow.
+    fn page(&self, start: &[u8], room: usize) -> (u8, Vec<u8>, usize, bool) {
+        let mut out = vec![FILL; room];
+        let paged = page(&self.block, &self.store, start, &mut out);
+        assert!(out[paged.written..].iter().all(|byte| *byte == FILL));
+        out.truncate(paged.written);
+        (paged.answer, out, paged.labels, paged.more)
+    }
+
     fn lookup(&self, label: &[u8]) -> Looked {
         lookup(&self.block, &self.store, label)
     }
@@ -367,6 +376,67 @@ fn an_output_that_is_short() {
     }
 }
 
+/// What a refused page gives beside its answer.
+fn refused(answer: u8) -> (u8, Vec<u8>, usize, bool) {
+    (answer, vec![], 0, false)
+}
+
+/// Labels A, B7 with two dots and C, and B8 with a removed dot alone; the entries of the three.
+fn three_labels() -> (Rack, [Vec<u8>; 3]) {
+    let mut one = Rack::new(1);
+    for label in [B7, b"C", b"B8", b"A", B7] {
+        assert_eq!(one.add(label, &[]).0, 0);
+    }
+    assert_eq!(one.remove(&[(1, 3)]).0, 0);
+    let b7 = entry(B7, &[(1, 1), (1, 5)]);
+    let entries = [entry(b"A", &[(1, 4)]), b7, entry(b"C", &[(1, 2)])];
+    (one, entries)
+}
+
+#[test]
+fn pages_of_either_side() {
+    let (one, entries) = three_labels();
+    for (room, labels) in [(13, 1), (35, 1), (36, 2), (48, 2), (49, 3), (99, 3)] {
+        let bytes = entries[..labels].concat();
+        assert_eq!(one.page(b"", room), (0, bytes, labels, labels < 3));
+    }
+    assert_eq!(
+        [one.page(b"", 12), one.page(b"A", 22)],
+        [13, 13].map(refused)
+    );
+    assert_eq!(one.page(&[b'x'; 33], 0), refused(5));
+    assert_eq!(one.page(b"A\0", 99), refused(5));
+    assert_eq!(one.page(&[b'x'; 32], 0), (0, vec![], 0, false));
+    assert_eq!(Rack::new(1).page(b"", 0), (0, vec![], 0, false));
+}
+
+#[test]
+fn pages_start_after_any_label() {
+    let (one, entries) = three_labels();
+    let starts: [(&[u8], usize); 7] = [
+        (b"", 0),
+        (b"@", 0),
+        (b"A", 1),
+        (b"B", 1),
+        (B7, 2),
+        (b"B8", 2),
+        (b"C", 3),
+    ];
+    for (start, from) in starts {
+        let bytes = entries[from..].concat();
+        assert_eq!(one.page(start, 99), (0, bytes, 3 - from, false));
+    }
+}
+
+/// A label whose dots are all removed takes no room.
+#[test]
+fn a_dead_label_on_a_page() {
+    let (mut one, entries) = three_labels();
+    assert_eq!(one.remove(&[(1, 2)]).0, 0);
+    assert_eq!(one.page(B7, 0), (0, vec![], 0, false));
+    assert_eq!(one.page(b"", 36), (0, entries[..2].concat(), 2, false));
+}
+
 #[test]
 fn a_tombstone_that_is_full() {
     let mut one = Rack::new(1);
@@ -450,6 +520,8 @@ fn answers_1(mut harmed: Rack) {
     assert_eq!(harmed.compact(), 1);
     let looked = harmed.lookup(B7);
     assert_eq!((looked.answer, looked.len, looked.listed), (1, 0, false));
+    assert_eq!(harmed.page(b"", 99), refused(1));
+    assert_eq!(harmed.page(b"\0", 99), refused(1));
     let listed = list(&harmed.block, &harmed.store, &mut [FILL; 99]);
     assert_eq!((listed.answer, listed.written, listed.labels), (1, 0, 0));
 }

@@ -24,6 +24,15 @@ pub struct Listed {
     pub labels: usize,
 }
 
+/// What a page gives: whether more follow is false if it is refused.
+#[derive(Clone, Copy, PartialEq, Eq, Debug)]
+pub struct Paged {
+    pub answer: u8,
+    pub written: usize,
+    pub labels: usize,
+    pub more: bool,
+}
+
 /// What lookup gives: a stretch of the lent store, and whether the listing has the label.
 #[derive(Clone, Copy, PartialEq, Eq, Debug)]
 pub struct Looked {
@@ -176,6 +185,33 @@ pub fn list(state: &State, store: &[u8], out: &mut [u8]) -> Listed {
         answer,
         written,
         labels,
+    }
+}
+
+/// Paged listing: the labels after this one, or from the front if it is empty.
+pub fn page(state: &State, store: &[u8], start: &[u8], out: &mut [u8]) -> Paged {
+    let state = state.block();
+    let (mut written, mut labels, mut more) = (0, 0, false);
+    let answer = unsafe {
+        ffi::ptl_page(
+            state.as_ptr(),
+            state.len(),
+            store.as_ptr(),
+            store.len(),
+            start.as_ptr(),
+            start.len(),
+            out.as_mut_ptr(),
+            out.len(),
+            &mut written,
+            &mut labels,
+            &mut more,
+        )
+    };
+    Paged {
+        answer,
+        written,
+        labels,
+        more,
     }
 }
 
@@ -356,12 +392,17 @@ mod tests {
             let o = out.as_mut_ptr();
             let list = unsafe { ffi::ptl_list(s, size, t, 64, o, 64, &mut w, &mut n) };
             assert_eq!((list, w, n, out), (1, 0, 0, [FILL; 64]));
+            let (l, o) = (b"B7".as_ptr(), out.as_mut_ptr());
+            let (mut w, mut n, mut more) = (77, 77, true);
+            let page =
+                unsafe { ffi::ptl_page(s, size, t, 64, l, 2, o, 64, &mut w, &mut n, &mut more) };
+            assert_eq!((page, w, n, more, out), (1, 0, 0, false, [FILL; 64]));
             let mut found = ffi::Bytes {
                 at: store[9..].as_ptr(),
                 len: 7,
             };
             let mut listed = true;
-            let (l, f) = (b"B7".as_ptr(), &mut found);
+            let f = &mut found;
             let looked = unsafe { ffi::ptl_lookup(s, size, t, 64, l, 2, f, &mut listed) };
             assert_eq!((looked, listed, found.at, found.len), (1, false, t, 0));
         }

@@ -20,6 +20,15 @@ pub struct Listing {
     pub labels: usize,
 }
 
+/// A page of a listing, in the output that was lent for it.
+#[derive(Clone, Copy, PartialEq, Eq, Debug)]
+pub struct Page<'a> {
+    pub bytes: &'a [u8],
+    pub labels: usize,
+    /// Whether labels are left after those of the page.
+    pub more: bool,
+}
+
 /// One label of a listing and its dots.
 #[derive(Clone, PartialEq, Eq, Debug)]
 pub struct Entry {
@@ -97,6 +106,17 @@ impl Controller {
         Answer::give(done.answer, || Listing { bytes, labels })
     }
 
+    /// Lists the labels after `start`, or from the front if it is empty: as many as fit whole in
+    /// `out`. `Page::next_start` is where the next page starts.
+    pub fn page<'o>(&self, start: &Label, out: &'o mut [u8]) -> Result<Page<'o>, Answer> {
+        let done = calls::page(&self.state, &self.store, &start.0, out);
+        Answer::give(done.answer, || Page {
+            bytes: &out[..done.written],
+            labels: done.labels,
+            more: done.more,
+        })
+    }
+
     /// Looks a label up.
     pub fn lookup(&self, label: &Label) -> Result<Found<'_>, Answer> {
         let looked = calls::lookup(&self.state, &self.store, &label.0);
@@ -117,14 +137,32 @@ impl Controller {
 impl Listing {
     /// The entries of the listing, in its order.
     pub fn entries(&self) -> Vec<Entry> {
-        let mut entries = Vec::new();
-        let mut rest = self.bytes.as_slice();
-        while let Some((entry, after)) = first_entry(rest) {
-            entries.push(entry);
-            rest = after;
-        }
-        entries
+        entries(&self.bytes)
     }
+}
+
+impl Page<'_> {
+    /// The entries of the page, in its order.
+    pub fn entries(&self) -> Vec<Entry> {
+        entries(self.bytes)
+    }
+
+    /// The label after which the next page starts; none if this is the last page.
+    pub fn next_start(&self) -> Option<Label> {
+        let last = self.entries().pop().map(|entry| entry.label);
+        last.filter(|_| self.more)
+    }
+}
+
+/// The entries that stand end to end in these bytes.
+fn entries(bytes: &[u8]) -> Vec<Entry> {
+    let mut entries = Vec::new();
+    let mut rest = bytes;
+    while let Some((entry, after)) = first_entry(rest) {
+        entries.push(entry);
+        rest = after;
+    }
+    entries
 }
 
 /// The first entry and what follows it: label length, label, number of dots, dots.

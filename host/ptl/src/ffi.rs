@@ -65,6 +65,20 @@ extern "C" {
         labels: *mut usize,
     ) -> u8;
 
+    pub fn ptl_page(
+        state: *const u8,
+        state_len: usize,
+        store: *const u8,
+        store_len: usize,
+        start: *const u8,
+        start_len: usize,
+        out: *mut u8,
+        out_len: usize,
+        written: *mut usize,
+        labels: *mut usize,
+        more: *mut bool,
+    ) -> u8;
+
     pub fn ptl_lookup(
         state: *const u8,
         state_len: usize,

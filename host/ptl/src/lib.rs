@@ -17,7 +17,7 @@ mod kinds;
 mod state;
 
 pub use answer::Answer;
-pub use controller::{Controller, Entry, Found, Listing};
+pub use controller::{Controller, Entry, Found, Listing, Page};
 pub use formats::{read_key, read_message, write_key, Key, Message};
 pub use kinds::{dots_of, dots_to_bytes, Actor, Counter, Dot, Label, SetName};
 pub use limits;

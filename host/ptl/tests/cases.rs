@@ -285,6 +285,89 @@ fn a_store_that_is_full() {
     assert_eq!(longer.compact(), Err(Answer::Damaged));
 }
 
+/// Labels A, B7 with two dots and C, in entries of 13, 23 and 13 bytes; B8 has a removed dot alone.
+fn three_labels() -> Controller {
+    let mut one = fresh(1);
+    for label in ["B7", "C", "B8", "A", "B7"] {
+        one.own_add(&Label::from(label), &[]).expect("accepted");
+    }
+    one.own_remove(&[dot(1, 3)]).expect("accepted");
+    one
+}
+
+#[test]
+fn pages_of_either_side() {
+    let one = three_labels();
+    let all = one.list().expect("is sound").bytes;
+    let steps = [(13, 1), (35, 1), (36, 2), (48, 2), (49, 3), (60, 3)];
+    for (room, labels) in steps {
+        let mut out = vec![0xEE; room];
+        let page = one.page(&Label::from(""), &mut out).expect("fits");
+        assert_eq!((page.labels, page.more), (labels, labels < 3), "{room}");
+        let written = page.bytes.len();
+        assert_eq!(written, [0, 13, 36, 49][labels]);
+        assert_eq!(out[..written], all[..written]);
+        assert_eq!(out[written..], vec![0xEE; room - written]);
+    }
+    let refused = |start: &[u8], room: usize| {
+        let mut out = vec![0xEE; room];
+        let answer = one.page(&Label(start.to_vec()), &mut out).err();
+        assert_eq!(out, vec![0xEE; room]);
+        answer
+    };
+    assert_eq!(refused(b"", 12), Some(Answer::OutputShort));
+    assert_eq!(refused(b"A", 22), Some(Answer::OutputShort));
+    assert_eq!(refused(b"C", 0), None);
+    assert_eq!(refused(&[b'x'; 32], 0), None);
+    assert_eq!(refused(&[b'x'; 33], 0), Some(Answer::BadName));
+    assert_eq!(refused(b"A\0", 60), Some(Answer::BadName));
+}
+
+#[test]
+fn pages_start_after_any_label() {
+    let one = three_labels();
+    let starts = [("", 3), ("@", 3), ("A", 2), ("A0", 2), ("B7", 1)];
+    for (start, labels) in starts.into_iter().chain([("B8", 1), ("C", 0), ("D", 0)]) {
+        let mut out = [0; 60];
+        let page = one.page(&Label::from(start), &mut out).expect("fits");
+        let listed = listed(&one);
+        assert_eq!(page.entries(), listed[3 - labels..], "{start}");
+        assert_eq!((page.labels, page.more), (labels, false));
+    }
+}
+
+/// A whole listing as docs/INTEGRATION.md says.
+#[test]
+fn pages_joined_are_the_listing() {
+    let one = three_labels();
+    let (mut joined, mut labels, mut pages) = (Vec::new(), 0, 0);
+    let mut next = Some(Label::from(""));
+    while let Some(start) = next {
+        let mut out = [0; 23];
+        let page = one.page(&start, &mut out).expect("fits");
+        joined.extend(page.bytes);
+        labels += page.labels;
+        pages += 1;
+        next = page.next_start();
+    }
+    let listing = one.list().expect("is sound");
+    assert_eq!((joined, labels, pages), (listing.bytes, listing.labels, 3));
+}
+
+#[test]
+fn a_page_speaks_of_the_state_that_it_finds() {
+    let mut one = three_labels();
+    let mut out = [0; 23];
+    let first = one.page(&Label::from(""), &mut out).expect("fits");
+    assert_eq!(first.next_start(), Some(Label::from("A")));
+    one.own_remove(&[dot(1, 1), dot(1, 4), dot(1, 5)])
+        .expect("accepted");
+    one.own_add(&Label::from("0"), &[]).expect("accepted");
+    let next = one.page(&Label::from("A"), &mut out).expect("fits");
+    assert_eq!(next.entries(), [entry("C", &[dot(1, 2)])]);
+    assert_eq!(next.next_start(), None);
+}
+
 #[test]
 fn a_tombstone_that_is_full() {
     let mut one = fresh(1);
@@ -376,6 +459,9 @@ fn any_state_is_answered() {
         assert_eq!(any.own_remove(&[]), Err(Answer::Damaged));
         assert_eq!(any.take_in(&[fill; 300]), Err(Answer::Damaged));
         assert_eq!(any.list(), Err(Answer::Damaged));
+        let mut out = [fill; 300];
+        assert_eq!(any.page(&Label::from("\0"), &mut out), Err(Answer::Damaged));
+        assert_eq!(out, [fill; 300]);
         assert_eq!(any.lookup(&b7()), Err(Answer::Damaged));
         assert_eq!(any.compact(), Err(Answer::Damaged));
         assert_eq!(any, before);

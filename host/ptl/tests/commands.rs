@@ -103,7 +103,7 @@ fn the_console_answers_before_it_is_asked_more() {
 /// Each call in the table with its counts, an answer each; -1 where it cannot give one.
 fn counts(table: &str) -> Vec<(&str, Vec<i64>)> {
     let lines = table.lines().skip(1);
-    let lines = lines.take_while(|line| !line.starts_with("held "));
+    let lines = lines.take_while(|line| !line.starts_with("accepted "));
     let row = |line: &'_ str| {
         let cells = line.split_whitespace().skip(1);
         cells.map(|cell| cell.parse().unwrap_or(-1)).collect()

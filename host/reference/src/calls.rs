@@ -25,6 +25,15 @@ pub struct Listed {
     pub labels: u64,
 }
 
+/// What a page gives: bytes written, number of labels, whether more follow; refused: 0, 0, false.
+#[derive(Clone, PartialEq, Eq, Debug)]
+pub struct Paged {
+    pub answer: u8,
+    pub written: u64,
+    pub labels: u64,
+    pub more: bool,
+}
+
 /// What lookup gives: a stretch of the lent store, and whether the label is listed.
 #[derive(Clone, PartialEq, Eq, Debug)]
 pub struct Looked {
@@ -85,6 +94,25 @@ pub fn list(state: &State, store: &[u8], out: &mut [u8]) -> Listed {
             answer,
             written: 0,
             labels: 0,
+        },
+    }
+}
+
+/// Paged listing: the labels after the starting one, the empty one being the front, as many whole
+/// entries as fit. Answers 1, 5, 13.
+pub fn page(state: &State, store: &[u8], start: &[u8], out: &mut [u8]) -> Paged {
+    match try_page(state, store, start, out) {
+        Ok((written, labels, more)) => Paged {
+            answer: DONE,
+            written,
+            labels,
+            more,
+        },
+        Err(answer) => Paged {
+            answer,
+            written: 0,
+            labels: 0,
+            more: false,
         },
     }
 }
@@ -198,16 +226,37 @@ fn try_compact(state: &State, store: &mut [u8]) -> Result<(State, u64), u8> {
 fn try_list(state: &State, store: &[u8], out: &mut [u8]) -> Result<(u64, u64), u8> {
     let held = Held::read(state, store).ok_or(DAMAGED)?;
     let listed = live(&held);
-    let mut bytes = Vec::new();
-    for (label, dots) in &listed {
-        bytes.push(label.len() as u8);
-        bytes.extend(*label);
-        bytes.extend((dots.len() as u16).to_be_bytes());
-        bytes.extend(dots.iter().flat_map(|dot| dot.bytes()));
-    }
+    let entries = listed.iter().map(|(label, dots)| entry(label, dots));
+    let bytes = entries.collect::<Vec<_>>().concat();
     let place = out.get_mut(..bytes.len()).ok_or(OUTPUT_SHORT)?;
     place.copy_from_slice(&bytes);
     Ok((bytes.len() as u64, listed.len() as u64))
+}
+
+fn try_page(
+    state: &State,
+    store: &[u8],
+    start: &[u8],
+    out: &mut [u8],
+) -> Result<(u64, u64, bool), u8> {
+    let held = Held::read(state, store).ok_or(DAMAGED)?;
+    if !start.is_empty() && !label_keeps_rule(start) {
+        return Err(BAD_NAME);
+    }
+    // No label is empty, so that all of them are after the front.
+    let after = live(&held).into_iter().filter(|(label, _)| *label > start);
+    let mut left = after.map(|(label, dots)| entry(label, &dots)).peekable();
+    let (mut bytes, mut labels) = (Vec::new(), 0);
+    while let Some(entry) = left.next_if(|entry| bytes.len() + entry.len() <= out.len()) {
+        bytes.extend(entry);
+        labels += 1;
+    }
+    let more = left.peek().is_some();
+    if labels == 0 && more {
+        return Err(OUTPUT_SHORT);
+    }
+    out[..bytes.len()].copy_from_slice(&bytes);
+    Ok((bytes.len() as u64, labels, more))
 }
 
 fn try_lookup(state: &State, store: &[u8], label: &[u8]) -> Result<(u64, u64, bool), u8> {
@@ -234,6 +283,15 @@ fn live(held: &Held) -> BTreeMap<&[u8], BTreeSet<Dot>> {
         }
     }
     listed
+}
+
+/// The bytes of a listed label: its length, itself, the number of its dots, the dots.
+fn entry(label: &[u8], dots: &BTreeSet<Dot>) -> Vec<u8> {
+    let mut bytes = vec![label.len() as u8];
+    bytes.extend(label);
+    bytes.extend((dots.len() as u16).to_be_bytes());
+    bytes.extend(dots.iter().flat_map(|dot| dot.bytes()));
+    bytes
 }
 
 /// Own base + 1; none if the own base is at the largest counter.

@@ -1,5 +1,5 @@
 //! The label set of a pick-to-light controller, written a second time from the rules
-//! (document 01) alone, to be compared with the product call by call.
+//! (documents 01 and 02) alone, to be compared with the product call by call.
 //!
 //! Nothing here works on bytes in place. A call reads state and store into sets of dots,
 //! ordered maps and pairs of label and dot, works on those, and writes the bytes anew.
@@ -22,4 +22,4 @@ pub use dot::{read_context, read_dots, Actor, Counter, Dot};
 pub use held::State;
 pub use keys::{read_key, write_key, KeyKind, KeyRead};
 pub use message::{read_message, Message, MessageRead};
-pub use rule::Rule;
+pub use rule::{Page, Rule};

@@ -3,7 +3,7 @@
 
 use crate::dot::{Actor, Dot};
 use crate::message::Message;
-use std::collections::BTreeSet;
+use std::collections::{BTreeMap, BTreeSet};
 
 /// The two sets of the rule, and the number of own adds accepted so far.
 #[derive(Clone, PartialEq, Eq, Debug)]
@@ -12,6 +12,14 @@ pub struct Rule {
     own_adds: u64,
     pairs: BTreeSet<(Vec<u8>, Dot)>,
     removed: BTreeSet<Dot>,
+}
+
+/// What the rule says of a page: its bytes, the number of its labels, whether more follow.
+#[derive(Clone, PartialEq, Eq, Debug)]
+pub struct Page {
+    pub bytes: Vec<u8>,
+    pub labels: u64,
+    pub more: bool,
 }
 
 impl Rule {
@@ -61,25 +69,32 @@ impl Rule {
 
     /// The bytes of the listing and the number of its labels.
     pub fn listing(&self) -> (Vec<u8>, u64) {
-        let live = self.live_pairs();
-        let labels: BTreeSet<&Vec<u8>> = live.iter().map(|(label, _)| label).collect();
-        let mut bytes = Vec::new();
-        for label in &labels {
-            let dots: Vec<Dot> = live
-                .iter()
-                .filter(|(of, _)| of == *label)
-                .map(|(_, dot)| *dot)
-                .collect();
-            bytes.push(label.len() as u8);
-            bytes.extend(label.iter());
-            bytes.push((dots.len() / 256) as u8);
-            bytes.push((dots.len() % 256) as u8);
-            for dot in dots {
-                bytes.push(dot.actor.byte());
-                bytes.extend(dot.counter.number().to_be_bytes());
-            }
+        let entries = self.entries_after(&[]);
+        (entries.concat(), entries.len() as u64)
+    }
+
+    /// The page after this label, or from the front if it is empty, in an output of so many bytes;
+    /// none if a label is left and its entry does not fit.
+    pub fn page(&self, start: &[u8], room: usize) -> Option<Page> {
+        let entries = self.entries_after(start);
+        let length = |number: usize| entries[..number].iter().map(Vec::len).sum::<usize>();
+        let number = (0..=entries.len()).rfind(|number| length(*number) <= room)?;
+        let more = number < entries.len();
+        (number > 0 || !more).then(|| Page {
+            bytes: entries[..number].concat(),
+            labels: number as u64,
+            more,
+        })
+    }
+
+    /// The entries of the listing whose labels come after this one, in order.
+    fn entries_after(&self, start: &[u8]) -> Vec<Vec<u8>> {
+        let mut dots_of: BTreeMap<Vec<u8>, Vec<Dot>> = BTreeMap::new();
+        for (label, dot) in self.live_pairs() {
+            dots_of.entry(label).or_default().push(dot);
         }
-        (bytes, labels.len() as u64)
+        let after = dots_of.iter().filter(|(label, _)| label.as_slice() > start);
+        after.map(|(label, dots)| entry(label, dots)).collect()
     }
 
     /// True if the listing has the label.
@@ -92,4 +107,17 @@ impl Rule {
         let added = self.pairs.iter().map(|(_, dot)| *dot);
         added.chain(self.removed.iter().copied()).collect()
     }
+}
+
+/// The bytes of a listed label.
+fn entry(label: &[u8], dots: &[Dot]) -> Vec<u8> {
+    let mut bytes = vec![label.len() as u8];
+    bytes.extend(label);
+    bytes.push((dots.len() / 256) as u8);
+    bytes.push((dots.len() % 256) as u8);
+    for dot in dots {
+        bytes.push(dot.actor.byte());
+        bytes.extend(dot.counter.number().to_be_bytes());
+    }
+    bytes
 }

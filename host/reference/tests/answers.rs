@@ -181,6 +181,107 @@ fn list_answers() {
     assert_eq!((refused.answer, refused.written, refused.labels), (1, 0, 0));
 }
 
+/// Labels A, B7 with two dots and C, in entries of 13, 23 and 13 bytes; B8 has a removed dot only.
+fn three_labels() -> Bench {
+    let mut bench = Bench::new(1);
+    for label in [&b"B7"[..], b"C", b"B8", b"A", b"B7"] {
+        bench.add(label, &[]);
+    }
+    bench.remove(&[(1, 3)]);
+    bench
+}
+
+/// The entries of the three labels.
+fn three_entries() -> [Vec<u8>; 3] {
+    let b7 = entry(B7, &[(1, 1), (1, 5)]);
+    [entry(b"A", &[(1, 4)]), b7, entry(b"C", &[(1, 2)])]
+}
+
+#[test]
+fn pages_are_cut_where_the_room_ends() {
+    let (bench, entries) = (three_labels(), three_entries());
+    let steps = [(13, 1), (35, 1), (36, 2), (48, 2), (49, 3), (50, 3)];
+    for (room, labels) in steps {
+        let (answer, page) = bench.page(b"", room);
+        assert_eq!((answer, page.bytes), (0, entries[..labels].concat()));
+        assert_eq!((page.labels, page.more), (labels as u64, labels < 3));
+    }
+    assert_eq!(bench.page(b"", 12), (13, no_page()));
+    assert_eq!(bench.page(b"", 0), (13, no_page()));
+    assert_eq!(bench.page(b"A", 22), (13, no_page()));
+    assert_eq!(bench.page(b"C", 0), (0, no_page()));
+}
+
+#[test]
+fn pages_start_after_any_label() {
+    let (bench, entries) = (three_labels(), three_entries());
+    let starts: [(&[u8], usize); 11] = [
+        (b"", 0),
+        (b"@", 0),
+        (b"A", 1),
+        (b"A\x01", 1),
+        (b"B", 1),
+        (b"B6\xff", 1),
+        (b"B7", 2),
+        (b"B70", 2),
+        (b"B8", 2),
+        (b"C", 3),
+        (&[255; 32], 3),
+    ];
+    for (start, from) in starts {
+        let (answer, page) = bench.page(start, 100);
+        assert_eq!((answer, page.bytes), (0, entries[from..].concat()));
+        assert_eq!((page.labels, page.more), (3 - from as u64, false));
+    }
+}
+
+#[test]
+fn page_ladder() {
+    let mut bad = three_labels();
+    bad.state.used -= 1;
+    let good = three_labels();
+    let long = [b'A'; 33];
+    let steps: [(&Bench, &[u8], usize, u8); 9] = [
+        (&bad, &long, 0, 1),
+        (&bad, b"", 100, 1),
+        (&good, &long, 0, 5),
+        (&good, b"\x00", 0, 5),
+        (&good, b"A\x00", 100, 5),
+        (&good, &long, 100, 5),
+        (&good, &long[..32], 12, 13),
+        (&good, &long[..32], 23, 0),
+        (&good, b"", 13, 0),
+    ];
+    for (bench, start, room, answer) in steps {
+        assert_eq!(bench.page(start, room).0, answer);
+    }
+}
+
+#[test]
+fn a_page_of_no_labels_is_ended() {
+    let mut bench = Bench::new(1);
+    assert_eq!(bench.page(b"", 0), (0, no_page()));
+    bench.add(B7, &[]);
+    assert_eq!(bench.page(b"", 0), (13, no_page()));
+    assert_eq!(bench.page(B7, 0), (0, no_page()));
+    bench.remove(&[(1, 1)]);
+    assert_eq!(bench.page(b"", 0), (0, no_page()));
+    assert_eq!(bench.page(b"", 100), (0, no_page()));
+}
+
+/// Each page speaks of the state that it finds.
+#[test]
+fn calls_between_pages() {
+    let mut bench = three_labels();
+    let (_, first) = bench.page(b"", 13);
+    assert_eq!(last_label(&first.bytes), Some(&b"A"[..]));
+    bench.remove(&[(1, 1), (1, 4), (1, 5)]);
+    bench.add(b"0", &[]);
+    let (answer, next) = bench.page(b"A", 13);
+    assert_eq!((answer, next.bytes), (0, entry(b"C", &[(1, 2)])));
+    assert_eq!((next.labels, next.more), (1, false));
+}
+
 #[test]
 fn lookup_answers() {
     let mut bench = Bench::new(1);

@@ -16,12 +16,13 @@ fn sound() -> Bench {
 }
 
 /// The answers of all calls that take a state, each with arguments that it accepts.
-fn answers(bench: &Bench) -> [u8; 6] {
+fn answers(bench: &Bench) -> [u8; 7] {
     [
         bench.clone().add(b"A", &[]).0,
         bench.clone().remove(&[(3, 5)]).0,
         bench.clone().take(&remove_message(b"R1", &[(3, 5)])),
         bench.list().0,
+        bench.page(b"", 100).0,
         bench.lookup(b"B7").answer,
         bench.clone().compact(),
     ]
@@ -31,10 +32,11 @@ fn answers(bench: &Bench) -> [u8; 6] {
 fn is_damage(what: &str, change: impl Fn(&mut Bench)) {
     let mut bench = sound();
     change(&mut bench);
-    assert_eq!(answers(&bench), [1; 6], "{what}");
+    assert_eq!(answers(&bench), [1; 7], "{what}");
     assert_eq!(bench.clone().add_bytes(b"", &[0], 0).0, 1, "{what}");
     assert_eq!(bench.clone().remove_bytes(&[0], 0).0, 1, "{what}");
     assert_eq!(bench.clone().take(b""), 1, "{what}");
+    assert_eq!(bench.page(&[0], 0).0, 1, "{what}");
     let refused = lookup(&bench.state, &bench.store, b"");
     assert_eq!((refused.start, refused.end, refused.listed), (0, 0, false));
 }
@@ -43,7 +45,7 @@ fn is_damage(what: &str, change: impl Fn(&mut Bench)) {
 fn is_sound(what: &str, change: impl Fn(&mut Bench)) {
     let mut bench = sound();
     change(&mut bench);
-    assert_eq!(answers(&bench), [0; 6], "{what}");
+    assert_eq!(answers(&bench), [0; 7], "{what}");
 }
 
 #[test]

@@ -8,6 +8,8 @@ use std::collections::{BTreeMap, BTreeSet};
 
 const LABELS: [&[u8]; 6] = [b"B7", b"B70", b"B8", b"A", &[255; 32], b"\x01"];
 const NAME: &[u8] = b"R1";
+/// Outputs of pages: too short for some entries, for one or two, for all.
+const ROOMS: [usize; 3] = [25, 60, 20_000];
 /// The actors that run as controllers; actor 9 only exists in stray messages.
 const ACTORS: [u8; 4] = [1, 2, 7, 16];
 const STRAY: u8 = 9;
@@ -216,12 +218,36 @@ impl Node {
         for label in LABELS {
             self.agrees_on(label);
         }
+        for room in ROOMS {
+            self.agrees_in_pages(room);
+        }
         let mut next = self.bench.clone();
         assert_eq!(next.compact(), 0);
         let pairs = self.rule.live_pairs();
         let keys = pairs.iter().map(|(label, dot)| key_of(label, *dot));
         assert_eq!(next.used(), keys.collect::<Vec<_>>().concat());
         assert_eq!(next.list(), self.bench.list());
+    }
+
+    /// Pages from the front to the end: each is the rule's, and joined they are the listing.
+    fn agrees_in_pages(&self, room: usize) {
+        let (mut start, mut joined, mut labels) = (Vec::new(), Vec::new(), 0);
+        loop {
+            let (answer, page) = self.bench.page(&start, room);
+            let told = self.rule.page(&start, room);
+            assert_eq!(answer, if told.is_some() { 0 } else { 13 });
+            assert_eq!(page, told.clone().unwrap_or_else(no_page));
+            if told.is_none() {
+                return;
+            }
+            joined.extend(&page.bytes);
+            labels += page.labels;
+            if !page.more {
+                break;
+            }
+            start = last_label(&page.bytes).expect("at least one").to_vec();
+        }
+        assert_eq!((0, joined, labels), self.bench.list());
     }
 
     /// Lookup: the yes is the rule's, the stretch holds this label's keys and no others do.

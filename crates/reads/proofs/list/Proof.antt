@@ -1,11 +1,15 @@
 -- Refusal 1, or the listing of the undamaged store.
+use mathlib.Core.Bool.{false}
 use mathlib.Core.Path.{_≡_, sym, _∙_}
+use native.Mathlib.Omega.{arith}
 use Rattle.calls.specs.declared.State.{State}
-use Rattle.calls.specs.State.{Sized}
+use Rattle.calls.specs.State.{usedPart, Sized}
 use Rattle.calls.specs.Damage.{damaged}
+use Rattle.calls.proofs.Clauses.{undamaged, used-fits}
 use Rattle.calls.proofs.Sized.{sized}
 use Rattle.judging.proofs.Heads.{at-head}
-use Rattle.reads.proofs.ReadCalls.{readable, damaged-listing, undamaged-listing}
+use Rattle.judging.proofs.Parts.{front-size}
+use Rattle.reads.proofs.ReadCalls.{stored-keys, readable, damaged-listing, undamaged-listing}
 use borrow.Author.Needs.{needs}
 use Rattle.reads.proofs.list.Statement.{statement}
 use Rattle.reads.proofs.list.Tie as tie
@@ -29,20 +33,40 @@ damaged-requires c κs = search needs
 returns : tie.Need-returns
 returns c = let s = start (c .before) in damaged-listing (s .args .t1) (s .args .store .now) _ (sym (told (c .before)) ∙ c .if1 .taken)
 
-slice-aggregate-list-used : tie.Need-slice-aggregate-list-used
-slice-aggregate-list-used c = search needs
+-- an undamaged store's used part
+abbrev read : tie.Else1 → tie.After-damaged
+read e = e .before
 
-list-used-requires : tie.Need-list-used-requires
-list-used-requires c κs = let e = c .before .before .before in let s = start (e .before) in readable (s .args .t1) _ (sizes s) (sym (told (e .before)) ∙ e .if1 .left)
+may : (e : tie.Else1) → damaged (start (read e) .args .t1) (start (read e) .args .store .now) ≡ false
+may e = sym (told (read e)) ∙ e .if1 .left
+
+slice-aggregate-put-used : tie.Need-slice-aggregate-put-used
+slice-aggregate-put-used c =
+    let e = c .before .before in
+    let s = start (read e) in
+    front-size (s .args .store .now) (s .args .t1 .used) (used-fits (s .args .t1) (s .args .store .now) (undamaged (s .args .t1) (s .args .store .now) (may e)))
+
+slice-aggregate-put-used-2 : tie.Need-slice-aggregate-put-used-2
+slice-aggregate-put-used-2 c = let s = start (read (c .before .before .before)) in sym (sizes s .tombstone-size)
+
+put-used-requires : tie.Need-put-used-requires
+put-used-requires c κs =
+    let e = c .before .before .before .before in
+    let s = start (read e) in
+    readable (s .args .t1) (s .args .store .now) (usedPart (s .args .t1) (s .args .store .now)) (sizes s) (may e) (stored-keys (s .args .t1) (s .args .store .now) (sizes s) (may e)) (omega arith)
+
+put-answer-requires : tie.Need-put-answer-requires
+put-answer-requires c κs = search needs
 
 same-length : tie.Need-same-length
 same-length c = search needs
 
 returns-2 : tie.Need-returns-2
 returns-2 c =
-    let e = c .before .before .before .before .before .before in
-    let s = start (e .before) in
-    undamaged-listing (s .args .t1) (s .args .store .now) _ _ _ (sizes s) (sym (told (e .before)) ∙ e .if1 .left) (c .before .before .list-used .ensures)
+    let put = c .before .before .before in
+    let e = put .before .before .before .before .before in
+    let s = start (read e) in
+    undamaged-listing (s .args .t1) (s .args .store .now) _ _ (put .put-used .result) _ (sizes s) (may e) (c .put-answer .ensures) (put .put-used .ensures)
 
 pub list-spec : {M : Type 1} → statement M
 list-spec =
@@ -51,7 +75,9 @@ list-spec =
     head-of-requires
     damaged-requires
     returns
-    slice-aggregate-list-used
-    list-used-requires
+    slice-aggregate-put-used
+    slice-aggregate-put-used-2
+    put-used-requires
+    put-answer-requires
     same-length
     returns-2)

@@ -1,61 +1,35 @@
--- The stretch from what the keys of the label begin with, as it was put.
-use Prim.Native.Nat.{ℕ, _+_, _≤_}
-use mathlib.Core.Path.{_≡_}
-use mathlib.Core.Bool.{true}
-use mathlib.Core.List.{[], _∷_, append-assoc}
-use native.Mathlib.Omega.{arith}
-use lib.ListN.{length, take}
+-- The part from where the label's keys begin to where they end.
 use denote.Ref.{RefT}
-use Rattle.wire.specs.Bytes.{Bytes, putAt}
-use Rattle.dots.specs.Names.{Name, Label, nameOk, labelOk, nameMost, labelMost}
-use Rattle.store.specs.Place.{labelStart, stretchStart, stretchEnd, LabelPassed, PlacePast, IsStretchFrom, IsStretch}
-use Rattle.store.proofs.Starts.{name-most, label-most, length-label-start, put-read, put-size, put-room}
+use Rattle.wire.specs.declared.Span.{Span}
+use Rattle.wire.specs.Bytes.{Bytes, endOf, IsPart}
+use Rattle.dots.specs.Names.{Name, Label}
+use Rattle.store.specs.Place.{IsSpan, IsStretch}
 use borrow.Author.Needs.{needs}
 use Rattle.store.proofs.stretch.Statement.{statement}
 use Rattle.store.proofs.stretch.Tie as tie
-use Rattle.keys.specs.Key.{prefixFixed}
 
-fits : (name : Name) (label : Label) → nameOk name ≡ true → labelOk label ≡ true → length name + length label + (prefixFixed + 1) ≤ nameMost + labelMost + (prefixFixed + 1)
-fits name label ok ok′ = omega (arith, name-most name ok, label-most label ok′)
+stretched : (keys r : RefT Bytes) (name : Name) (label : Label) (p : Span) → IsSpan name label (keys .now) p → IsPart keys (p .at) (endOf p) r → IsStretch name label keys r
+stretched keys r name label p is part = rw (← is .1, ← is .0) part
 
-module _ (name : Name) (label : Label) (s t : Bytes) (n : ℕ) (put : t ≡ putAt s 0 (labelStart name label)) (count : n ≡ length name + length label + 5) where
-  stretched : (keys r : RefT Bytes)
-      → IsStretchFrom (length name) keys (take n t) r → IsStretch name label keys r
-  unfolding stretchStart stretchEnd
-  stretched keys r part = rw (put-read s t (labelStart name label) n (length name + length label + 5) put count (length-label-start name label)) at part
+label-span-requires : tie.Need-label-span-requires
+label-span-requires c κs = search needs
 
-  placed-start : (keys : Bytes) (low : ℕ) → LabelPassed name label keys low → PlacePast (length name) keys (take n t) low
-  unfolding labelStart
-  placed-start keys low p = record {
-    within = p .within;
-    placed = rw (put-read s t (labelStart name label) n (length name + length label + 5) put count (length-label-start name label)) (rw append-assoc at (p .placed (0 ∷ [])));
-  }
+add-end : tie.Need-add-end
+add-end c = search needs
 
-slice-aggregate-put-label-start : tie.Need-slice-aggregate-put-label-start
-slice-aggregate-put-label-start c = search needs
+sub-result : tie.Need-sub-result
+sub-result c = search needs
 
-put-label-start-requires : tie.Need-put-label-start-requires
-put-label-start-requires c κs = search (needs, fits)
+part-result-start : tie.Need-part-result-start
+part-result-start c = search needs
 
-array-share-prefix-start : tie.Need-array-share-prefix-start
-array-share-prefix-start c = search (needs, put-room, length-label-start)
-
-slice-aggregate-stretch-from : tie.Need-slice-aggregate-stretch-from
-slice-aggregate-stretch-from c = search (needs, put-size, length-label-start)
-
-stretch-from-requires : tie.Need-stretch-from-requires
-stretch-from-requires c κs = (search (needs, name-most), search (needs, placed-start))
+part-result-end : tie.Need-part-result-end
+part-result-end c = search needs
 
 returns : tie.Need-returns
-returns c = search (needs, stretched)
+returns c = stretched (c .before .before .before .before .before .before .args .keys) _ _ _ (c .before .before .label-span .result) (c .before .before .label-span .ensures) (search needs)
 
 pub stretch-spec : {M : Type 1} → statement M
 stretch-spec =
     tie.close
-    (tie.spec
-    slice-aggregate-put-label-start
-    put-label-start-requires
-    array-share-prefix-start
-    slice-aggregate-stretch-from
-    stretch-from-requires
-    returns)
+    (tie.spec label-span-requires add-end sub-result part-result-start part-result-end returns)

@@ -5,6 +5,7 @@ mod data;
 mod floor;
 mod intake;
 mod messages;
+mod pages;
 mod pairs;
 mod pin;
 mod single;
@@ -15,6 +16,7 @@ mod table;
 mod tests;
 
 use crate::compare::Engines;
+use limits::STORE_MAX;
 use std::io::{self, Write};
 use table::Row;
 
@@ -72,11 +74,14 @@ fn tables(engines: Engines, plan: Plan, report: &mut dyn Write) -> Result<(), St
     table::head(plan, pin::pin(), report)?;
     let intake = intake_table(engines, plan, report)?;
     let singles = single_table(engines, plan, report)?;
+    let pages = page_table(engines, plan, report)?;
     table::growth(&singles, report)?;
+    pages::whole_table(engines, plan, report)?;
     table::worst("taking in", &intake, report)?;
     let full = |row: &&Row| row.used >= 15 * 1024;
     let full: Vec<Row> = singles.iter().filter(full).cloned().collect();
     table::worst("a call at 16 or 64 KiB", &full, report)?;
+    table::worst("a page of ten labels", &pages, report)?;
     writeln!(report, "Answers and bytes were equal in every run.")?;
     Ok(())
 }
@@ -104,6 +109,19 @@ fn single_table(engines: Engines, plan: Plan, report: &mut dyn Write) -> Result<
                 table::single_row(&row, report)?;
                 rows.push(row);
             }
+        }
+    }
+    Ok(rows)
+}
+
+/// Pages on the largest store.
+fn page_table(engines: Engines, plan: Plan, report: &mut dyn Write) -> Result<Vec<Row>, Stopped> {
+    let mut rows = Vec::new();
+    for call in single::PAGES {
+        for label in single::LABELS {
+            let row = single::measure(engines, plan, call, label, STORE_MAX)?;
+            table::single_row(&row, report)?;
+            rows.push(row);
         }
     }
     Ok(rows)

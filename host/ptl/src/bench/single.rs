@@ -1,7 +1,9 @@
 //! One call at a time: on stores of five sizes, with labels of two lengths.
 
+use super::pages::page_of_ten;
 use super::pairs::{differing_byte, first_difference, pairs, Workload};
 use super::starts::{start, Start, CONTEXT};
+use super::stats::Summary;
 use super::table::Row;
 use super::{floor, Plan, Stopped};
 use crate::compare::Engines;
@@ -23,6 +25,9 @@ pub const CALLS: [Call; 5] = [
     Call::Compact,
 ];
 
+/// The calls that are timed on the largest store alone: pages of ten labels.
+pub const PAGES: [Call; 2] = [Call::FrontPage, Call::MiddlePage];
+
 #[derive(Clone, Copy, PartialEq, Eq, Debug)]
 pub enum Call {
     Add,
@@ -30,6 +35,8 @@ pub enum Call {
     List,
     Lookup,
     Compact,
+    FrontPage,
+    MiddlePage,
 }
 
 impl Call {
@@ -40,6 +47,8 @@ impl Call {
             Call::List => "listing",
             Call::Lookup => "lookup",
             Call::Compact => "compaction",
+            Call::FrontPage => "page front",
+            Call::MiddlePage => "page mid",
         }
     }
 
@@ -61,24 +70,50 @@ impl Call {
             },
             Call::Lookup => Command::Lookup { label },
             Call::Compact => Command::Compact,
+            Call::FrontPage => page_of_ten(&start.rack, Vec::new()),
+            Call::MiddlePage => page_of_ten(&start.rack, label),
         }
     }
 }
 
-/// A call on a number of copies of a controller, enough of them for the clock to tell.
-struct Single {
-    command: Command,
+/// Calls one after another, on a number of copies of a controller.
+struct Calls {
+    commands: Vec<Command>,
     start: Vec<Buffers>,
 }
 
+/// A copy, with the output and the reply of each call.
 #[derive(Clone)]
 struct Buffers {
     rack: Rack,
-    out: Vec<u8>,
-    reply: Reply,
+    outs: Vec<Vec<u8>>,
+    replies: Vec<Reply>,
 }
 
-impl Workload for Single {
+impl Buffers {
+    fn run(&mut self, engine: &dyn Engine, commands: &[Command]) {
+        let left = self.outs.iter_mut().zip(&mut self.replies);
+        for (command, (out, reply)) in commands.iter().zip(left) {
+            *reply = engine.run(&mut self.rack, command, out);
+        }
+    }
+
+    /// What is wrong with what a call left here and on the other side, if anything is.
+    fn difference(&self, other: &Buffers, call: usize) -> Option<String> {
+        let replies = [self.replies[call], other.replies[call]];
+        let outs = [self.outs[call].as_slice(), &other.outs[call]];
+        match replies {
+            [product, baseline] if product != baseline => {
+                Some(format!("product {product:?}, baseline {baseline:?}"))
+            }
+            [reply, _] if reply.answer() != 0 => Some(format!("not accepted, {reply:?}")),
+            _ => first_difference("output byte", outs)
+                .or_else(|| differing_byte(&self.rack, &other.rack)),
+        }
+    }
+}
+
+impl Workload for Calls {
     type Buffers = Vec<Buffers>;
 
     fn start(&self) -> &Vec<Buffers> {
@@ -86,31 +121,41 @@ impl Workload for Single {
     }
 
     fn run(&self, engine: &dyn Engine, buffers: &mut Vec<Buffers>) {
-        for Buffers { rack, out, reply } in buffers {
-            *reply = engine.run(rack, &self.command, out);
+        for copy in buffers {
+            copy.run(engine, &self.commands);
         }
     }
 
     fn difference(&self, left: &[Vec<Buffers>; 2]) -> Option<String> {
         let [product, other] = left;
-        let what = self.command.word();
-        for (product, other) in product.iter().zip(other) {
-            if product.reply != other.reply {
-                let (product, other) = (product.reply, other.reply);
-                return Some(format!("{what}: product {product:?}, baseline {other:?}"));
-            }
-            if product.reply.answer() != 0 {
-                return Some(format!("{what}: not accepted, {:?}", product.reply));
-            }
-            let bytes = differing_byte(&product.rack, &other.rack);
-            let bytes =
-                bytes.or_else(|| first_difference("output byte", [&product.out, &other.out]));
-            if bytes.is_some() {
-                return bytes.map(|bytes| format!("{what}: {bytes}"));
-            }
-        }
-        None
+        let mut copies = product.iter().zip(other);
+        copies.find_map(|(product, other)| {
+            let mut commands = self.commands.iter().enumerate();
+            commands.find_map(|(call, command)| {
+                let what = product.difference(other, call)?;
+                Some(format!("{}: {what}", command.word()))
+            })
+        })
     }
+}
+
+/// Times calls one after another on so many copies of a controller: of one copy, all calls.
+pub fn time(
+    engines: Engines,
+    plan: Plan,
+    rack: &Rack,
+    commands: Vec<Command>,
+    copies: usize,
+) -> Result<Summary, Stopped> {
+    let outs = commands.iter().map(|command| vec![0xA5; command.out()]);
+    let buffers = Buffers {
+        rack: rack.clone(),
+        outs: outs.collect(),
+        replies: vec![Reply::Answered(u8::MAX); commands.len()],
+    };
+    let start = vec![buffers; copies];
+    let summary = pairs(engines, &Calls { commands, start }, plan.single_pairs)?;
+    Ok(summary.share(copies))
 }
 
 /// Measures one call on one size of store with labels of one length.
@@ -125,27 +170,19 @@ pub fn measure(
     let used = start.rack.used();
     let copies = copies(used);
     let command = call.command(&start);
-    let buffers = Buffers {
-        out: vec![0xA5; command.out()],
-        rack: start.rack,
-        reply: Reply::Answered(u8::MAX),
-    };
-    let single = Single {
-        command,
-        start: vec![buffers; copies],
-    };
-    let summary = pairs(engines, &single, plan.single_pairs)?;
+    let summary = time(engines, plan, &start.rack, vec![command], copies)?;
     let floor = floor::time(&vec![used; copies], plan.single_pairs);
     Ok(Row {
         what: call.words(),
         bytes: label,
         used,
-        summary: summary.share(copies),
+        summary,
         floor: floor / copies as f64,
     })
 }
 
-/// As many copies as stay in a cache near the core, and at most 64.
+/// As many copies as stay in a cache near the core, enough of them for the clock to tell, and at
+/// most 64.
 fn copies(used: usize) -> usize {
     ((128 << 10) / (used + 2048)).clamp(1, 64)
 }

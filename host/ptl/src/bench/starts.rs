@@ -7,7 +7,7 @@ use limits::{label_key_size, ACTORS, ACTOR_MAX, STORE_MAX};
 use ptl::{write_key, Actor, Dot, Key, Label, SetName, State};
 use std::collections::BTreeSet;
 
-const NAME: &str = "R1";
+pub const NAME: &str = "R1";
 /// Dots in the tombstone, if the store has twice as many keys.
 const REMOVED: usize = 64;
 /// The dots that own calls have as context: seen, and not in the tombstone.

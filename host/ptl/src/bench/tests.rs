@@ -110,7 +110,8 @@ fn equal_engines_pass() {
     let (passed, report) = said([&Product, &Baseline]);
     assert!(passed, "{report}");
     assert!(report.ends_with("Answers and bytes were equal in every run.\n"));
-    // Two tables of 8 and of 50 lines, and two lines for each call and label length.
+    // Tables of 8, of 50 and of 4 lines, two lines for each call and label length, and two for
+    // each whole listing in pages.
     let starting = |words: &str| report.lines().filter(|l| l.starts_with(words)).count();
     assert_eq!(["short ", "mixed ", "bins ", "deep "].map(starting), [2; 4]);
     let calls = [
@@ -121,6 +122,8 @@ fn equal_engines_pass() {
         "compaction ",
     ];
     assert_eq!(calls.map(starting), [14; 5]);
+    assert_eq!(["page front ", "page mid "].map(starting), [2; 2]);
+    assert_eq!(["    2     ", "   32     "].map(starting), [2; 2]);
 }
 
 #[test]

@@ -68,7 +68,7 @@ impl<'a> Episode<'a> {
         let held = self.trial.held();
         let reply = self.trial.step(&step);
         if let (Ok(Some(reply)), Act::Command(command)) = (&reply, &step.act) {
-            self.tally.count(command, reply.answer());
+            self.tally.count(command, reply);
         }
         self.tally.held(self.trial.held() - held);
         self.script.push(step);

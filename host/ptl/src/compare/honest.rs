@@ -5,10 +5,12 @@ use super::trial::What;
 use crate::rule::tell;
 use crate::script::{Command, Poke, Rack, Reply, Tool};
 use limits::{ACTOR_MAX, KEY_MAX, WINDOW};
-use ptl::calls::Listed;
-use ptl::{Actor, State};
+use ptl::calls::{Listed, Paged};
+use ptl::{Actor, Answer, State};
 use reference::{write_key, Dot, KeyKind, Rule};
 use std::collections::BTreeSet;
+
+const OUTPUT_SHORT: u8 = Answer::OutputShort as u8;
 
 /// The rule, with the set name for the bytes of keys.
 pub struct Honest {
@@ -31,8 +33,8 @@ impl Honest {
         !accepted || tell(&mut self.rule, command) && self.rule.has_one_label_a_dot()
     }
 
-    /// Holds an accepted listing, lookup or compaction to the rule, and the clock with it. False
-    /// for any other call.
+    /// Holds an accepted listing, lookup or compaction to the rule, and a page that is accepted or
+    /// refused for its output; the clock with it. False for any other call.
     pub fn check(
         &self,
         command: &Command,
@@ -40,11 +42,13 @@ impl Honest {
         rack: &Rack,
         out: &[u8],
     ) -> Result<bool, What> {
-        if reply.answer() != 0 {
+        let is_short = matches!(reply, Reply::Paged(paged) if paged.answer == OUTPUT_SHORT);
+        if reply.answer() != 0 && !is_short {
             return Ok(false);
         }
         let holds = match (command, reply) {
             (Command::List { .. }, Reply::Listed(listed)) => self.lists(listed, out),
+            (Command::Page { start, .. }, Reply::Paged(paged)) => self.pages(start, paged, out),
             (Command::Lookup { label }, Reply::Looked(looked)) => {
                 looked.listed == self.rule.has(label)
             }
@@ -63,6 +67,16 @@ impl Honest {
     fn lists(&self, listed: &Listed, out: &[u8]) -> bool {
         let (bytes, labels) = self.rule.listing();
         out.get(..listed.written) == Some(&bytes) && listed.labels as u64 == labels
+    }
+
+    /// A page of an output: the rule's listing after the start, cut where the output ends; refused
+    /// exactly if the first entry left is cut.
+    fn pages(&self, start: &[u8], paged: &Paged, out: &[u8]) -> bool {
+        let Some(told) = self.rule.page(start, out.len()) else {
+            return paged.answer == OUTPUT_SHORT;
+        };
+        let counts = (paged.answer, paged.labels as u64, paged.more);
+        out.get(..paged.written) == Some(&told.bytes) && counts == (0, told.labels, told.more)
     }
 
     /// The keys that a compaction leaves.

@@ -40,18 +40,47 @@ pub fn own_remove(random: &mut Random, rack: &Rack, wild: bool) -> Command {
     Command::Remove { context, out }
 }
 
-/// Listing, lookup or compaction.
+/// Listing, page, lookup or compaction.
 pub fn looking(random: &mut Random, rack: &Rack) -> Command {
-    match random.below(10) {
+    match random.below(15) {
         0..=4 => {
-            let out = pools::out(random, listing_length(rack));
+            let need = line_lengths(rack).values().sum();
+            let out = pools::out(random, need);
             Command::List { out }
         }
-        5..=7 => Command::Lookup {
+        5..=9 => page(random, rack),
+        10..=12 => Command::Lookup {
             label: asked_label(random, rack),
         },
         _ => Command::Compact,
     }
+}
+
+/// A page with room for some of the lines after its start, or a little less or more.
+fn page(random: &mut Random, rack: &Rack) -> Command {
+    let start = page_start(random, rack);
+    let lengths = line_lengths(rack);
+    let after = lengths.into_iter().filter(|(label, _)| *label > start);
+    let after: Vec<usize> = after.map(|(_, length)| length).collect();
+    let number = random.between(after.len().min(1), after.len());
+    let need: usize = after[..number].iter().sum();
+    let out = match random.chance(60) {
+        true => need.saturating_sub(1) + random.between(0, DOT_SIZE),
+        false => pools::out(random, need),
+    };
+    Command::Page { start, out }
+}
+
+/// The front, a label, or one next to it in order; broken ones are among them.
+fn page_start(random: &mut Random, rack: &Rack) -> Vec<u8> {
+    let mut start = asked_label(random, rack);
+    match random.below(10) {
+        0..=2 => start.clear(),
+        3 => start.push(1),
+        4 => drop(start.pop()),
+        _ => (),
+    }
+    start
 }
 
 /// A label that is stored, or any.
@@ -63,18 +92,19 @@ fn asked_label(random: &mut Random, rack: &Rack) -> Vec<u8> {
     }
 }
 
-/// The length of the listing of a sound state.
-fn listing_length(rack: &Rack) -> usize {
+/// The labels that a sound state lists, with the lengths of their lines.
+fn line_lengths(rack: &Rack) -> BTreeMap<Vec<u8>, usize> {
     let removed = rack.state.tombstone();
     let name = rack.state.name().len();
     let mut lengths = BTreeMap::new();
     for key in dots::keys(rack) {
         if dots::dot_of_key(key).is_some_and(|dot| removed.binary_search(&dot).is_err()) {
-            let label = dots::label_of_key(key, name);
-            *lengths.entry(label).or_insert(label.len() + LINE_FIXED) += DOT_SIZE;
+            let label = dots::label_of_key(key, name).to_vec();
+            let empty = label.len() + LINE_FIXED;
+            *lengths.entry(label).or_insert(empty) += DOT_SIZE;
         }
     }
-    lengths.values().sum()
+    lengths
 }
 
 /// Writing or reading a key, or reading a message.

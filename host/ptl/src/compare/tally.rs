@@ -1,10 +1,13 @@
-//! How often each answer of each call was met.
+//! How often each answer of each call was met, and either end of a page.
 
-use crate::script::{Command, Worded};
+use crate::script::{Command, Reply, Worded};
 use limits::ANSWERS;
 
 /// Each call by its word, with the answers it can give.
 const CALLS: &[(&str, &[u8])] = Command::TABLE;
+
+/// What a page says of those that follow it, by whether more do.
+const ENDS: [&str; 2] = ["ended", "more"];
 
 /// The counts of a run, and how many calls it is to have.
 pub struct Tally {
@@ -12,6 +15,8 @@ pub struct Tally {
     done: u64,
     held: u64,
     met: [[u64; ANSWERS]; CALLS.len()],
+    /// Accepted pages that none follows, and those that more follow.
+    pages: [u64; 2],
 }
 
 impl Tally {
@@ -21,14 +26,19 @@ impl Tally {
             done: 0,
             held: 0,
             met: [[0; ANSWERS]; CALLS.len()],
+            pages: [0; 2],
         }
     }
 
     /// Counts one call.
-    pub fn count(&mut self, command: &Command, answer: u8) {
+    pub fn count(&mut self, command: &Command, reply: &Reply) {
         self.done += 1;
-        if let Some(count) = self.met[command.row()].get_mut(usize::from(answer)) {
+        let answer = usize::from(reply.answer());
+        if let Some(count) = self.met[command.row()].get_mut(answer) {
             *count += 1;
+        }
+        if let (0, Reply::Paged(paged)) = (answer, reply) {
+            self.pages[usize::from(paged.more)] += 1;
         }
     }
 
@@ -46,13 +56,16 @@ impl Tally {
         self.wanted.saturating_sub(self.done)
     }
 
-    /// The answers that a call can give and did not.
-    pub fn unmet(&self) -> Vec<(&'static str, u8)> {
+    /// The answers that a call can give and did not, and the ends that no page had.
+    pub fn unmet(&self) -> Vec<String> {
         let mut unmet = Vec::new();
         for ((call, answers), met) in CALLS.iter().zip(&self.met) {
             let missing = answers.iter().filter(|a| met[usize::from(**a)] == 0);
-            unmet.extend(missing.map(|answer| (*call, *answer)));
+            unmet.extend(missing.map(|answer| format!("{call} {answer}")));
         }
+        let ends = ENDS.iter().zip(&self.pages);
+        let missing = ends.filter(|(_, count)| **count == 0);
+        unmet.extend(missing.map(|(end, _)| format!("page {end}")));
         unmet
     }
 
@@ -68,6 +81,8 @@ impl Tally {
             let cells: String = met.iter().enumerate().map(cell).collect();
             lines.push(format!("{call:<12}{cells}"));
         }
+        let [ended, more] = self.pages;
+        lines.push(format!("accepted pages: {more} more, {ended} ended"));
         lines.push(format!("held to the rule of demand 3: {}", self.held));
         lines
     }

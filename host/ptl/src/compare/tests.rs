@@ -8,8 +8,9 @@ use super::trial::Act;
 use super::{compare, verdict, Engines, FULL_RUN};
 use crate::console::console;
 use crate::engine::{Baseline, Engine, Fault, Faulty, Second};
-use crate::script::{line_to, parse, Command, Line};
+use crate::script::{line_to, parse, Command, Line, Reply};
 use limits::TOMBSTONE_DOTS_MAX;
+use ptl::calls::Paged;
 
 /// The report of a run that must find a difference.
 fn found(engines: Engines) -> String {
@@ -61,6 +62,7 @@ fn shows(fault: Fault, what: &str, most: usize) {
 fn a_fault_in_the_answer_is_shown() {
     shows(Fault::DeadLabelListed, "answers or counts differ", 10);
     shows(Fault::OtherAnswer, "answers or counts differ", 2);
+    shows(Fault::PageEndsEarly, "answers or counts differ", 10);
 }
 
 #[test]
@@ -89,11 +91,13 @@ fn a_fault_in_the_store_is_shown() {
 #[test]
 fn a_fault_in_the_output_is_shown() {
     shows(Fault::ListingRunsOn, "outputs differ", 10);
+    shows(Fault::PageRunsOn, "outputs differ", 10);
 }
 
 #[test]
 fn a_fault_at_a_boundary_is_shown() {
-    shows(Fault::StoreOneShort, "answers or counts differ", 10);
+    // The adds that fill the store to its end.
+    shows(Fault::StoreOneShort, "answers or counts differ", 20);
     // All slots but one, their number, a base, a set-up and the remove.
     let most = TOMBSTONE_DOTS_MAX + 12;
     shows(Fault::TombstoneOneShort, "answers or counts differ", most);
@@ -109,12 +113,18 @@ fn a_fault_in_a_format_is_shown() {
 
 #[test]
 fn a_fault_that_both_sides_have_breaks_the_rule() {
-    let faulty = Faulty::new(&Second, Fault::DeadLabelListed);
-    let report = found([&faulty, &faulty]);
-    assert!(
-        report.contains("not what the rule of demand 3 says"),
-        "{report}"
-    );
+    for fault in [
+        Fault::DeadLabelListed,
+        Fault::PageEndsEarly,
+        Fault::PageOneShort,
+    ] {
+        let faulty = Faulty::new(&Second, fault);
+        let report = found([&faulty, &faulty]);
+        assert!(
+            report.contains("not what the rule of demand 3 says"),
+            "{report}"
+        );
+    }
 }
 
 #[test]
@@ -143,22 +153,43 @@ fn the_reference_agrees_with_itself() {
 #[test]
 fn a_tally_tells_what_was_not_met() {
     let mut tally = Tally::new(10);
-    assert!(tally.unmet().contains(&("setup", 5)));
+    let unmet = |tally: &Tally, what: &str| tally.unmet().iter().any(|unmet| unmet == what);
+    assert!(unmet(&tally, "setup 5"));
     let all = tally.unmet().len();
     let setup = Command::Setup {
         actor: 0,
         name: Vec::new(),
     };
-    tally.count(&setup, 5);
-    assert!(!tally.unmet().contains(&("setup", 5)));
+    tally.count(&setup, &Reply::Answered(5));
+    assert!(!unmet(&tally, "setup 5"));
     assert_eq!((tally.unmet().len(), tally.left()), (all - 1, 9));
+    let page = Command::Page {
+        start: Vec::new(),
+        out: 0,
+    };
+    let paged = |answer, more| {
+        let (written, labels) = (0, 0);
+        Reply::Paged(Paged {
+            answer,
+            written,
+            labels,
+            more,
+        })
+    };
+    tally.count(&page, &paged(13, false));
+    assert!(unmet(&tally, "page ended") && unmet(&tally, "page more"));
+    tally.count(&page, &paged(0, true));
+    assert!(unmet(&tally, "page ended") && !unmet(&tally, "page more"));
+    tally.count(&page, &paged(0, false));
+    assert!(!unmet(&tally, "page ended") && !unmet(&tally, "page more"));
 }
 
 #[test]
 fn a_full_run_must_meet_every_answer() {
     let mut tally = Tally::new(FULL_RUN);
+    let done = Reply::Answered(0);
     for _ in 1..FULL_RUN {
-        tally.count(&Command::Compact, 0);
+        tally.count(&Command::Compact, &done);
     }
     let said = |tally: &Tally| {
         let mut report = Vec::new();
@@ -167,7 +198,7 @@ fn a_full_run_must_meet_every_answer() {
     };
     let (passed, report) = said(&tally);
     assert!(passed && !report.contains("not met"), "{report}");
-    tally.count(&Command::Compact, 0);
+    tally.count(&Command::Compact, &done);
     let (passed, report) = said(&tally);
     assert!(!passed && report.contains("not met: compact 1"), "{report}");
     assert!(!report.contains("not met: compact 0"), "{report}");

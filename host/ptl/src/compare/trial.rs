@@ -67,7 +67,7 @@ impl<'a> Trial<'a> {
         &self.outs[side]
     }
 
-    /// How many listings, lookups and compactions were held to the rule.
+    /// How many listings, pages, lookups and compactions were held to the rule.
     pub fn held(&self) -> u64 {
         self.held
     }

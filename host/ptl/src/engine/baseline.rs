@@ -2,7 +2,7 @@
 
 use super::Engine;
 use crate::script::{Command, Rack, Reply};
-use ptl::calls::{KeyRead, Listed, Looked, MessageRead, Span, Wrote};
+use ptl::calls::{KeyRead, Listed, Looked, MessageRead, Paged, Span, Wrote};
 
 pub struct Baseline;
 
@@ -25,6 +25,7 @@ impl Engine for Baseline {
             }
             Command::Take { message } => Reply::Answered(self.take_in(rack, message)),
             Command::List { .. } => listed(baseline::list(block, store, out)),
+            Command::Page { start, .. } => paged(baseline::page(block, store, start, out)),
             Command::Lookup { label } => looked(baseline::lookup(block, store, label)),
             Command::Compact => Reply::Answered(baseline::compact(block, store)),
             Command::Key { key, .. } => wrote(key.written_by(baseline::write_key, out)),
@@ -54,6 +55,15 @@ fn listed(listed: baseline::Listed) -> Reply {
         answer: listed.answer,
         written: listed.written,
         labels: listed.labels,
+    })
+}
+
+fn paged(paged: baseline::Paged) -> Reply {
+    Reply::Paged(Paged {
+        answer: paged.answer,
+        written: paged.written,
+        labels: paged.labels,
+        more: paged.more,
     })
 }
 

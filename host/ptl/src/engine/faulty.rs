@@ -18,6 +18,12 @@ pub enum Fault {
     FreedByteKept,
     /// A byte is written after the listing.
     ListingRunsOn,
+    /// A byte is written after a page that more follow.
+    PageRunsOn,
+    /// A page that more follow says that it is the last.
+    PageEndsEarly,
+    /// A page that fills its output exactly is cut shorter or refused.
+    PageOneShort,
     /// A label all of whose dots are removed is looked up as listed.
     DeadLabelListed,
     /// A shift of the window by its whole width leaves it as it was.
@@ -127,10 +133,12 @@ impl<'a> Faulty<'a> {
     fn spoil(&self, reply: &mut Reply, out: &mut [u8]) {
         match reply {
             Reply::Listed(listed) if self.has(Fault::ListingRunsOn) && listed.labels > 0 => {
-                if let Some(byte) = out.get_mut(listed.written) {
-                    *byte = 0;
-                }
+                run_on(listed.written, out);
             }
+            Reply::Paged(paged) if self.has(Fault::PageRunsOn) && paged.more => {
+                run_on(paged.written, out);
+            }
+            Reply::Paged(paged) => paged.more &= !self.has(Fault::PageEndsEarly),
             Reply::Looked(looked) => {
                 looked.listed |= self.has(Fault::DeadLabelListed) && looked.found.len > 0;
             }
@@ -194,6 +202,13 @@ impl<'a> Faulty<'a> {
     }
 }
 
+/// Writes a byte after these.
+fn run_on(written: usize, out: &mut [u8]) {
+    if let Some(byte) = out.get_mut(written) {
+        *byte = 0;
+    }
+}
+
 /// Puts back the windows that a call has shifted by their whole width.
 fn keep_shifted_windows(before: &State, state: &mut State) {
     for actor in (1..=ACTOR_MAX).map(Actor) {
@@ -222,6 +237,10 @@ impl Engine for Faulty<'_> {
             Command::Take { .. } => Reply::Answered(self.taken_in(rack, command)),
             Command::Compact => self.compact(rack),
             Command::ReadMessage { bytes } => self.read_message(rack, bytes),
+            Command::Page { .. } if self.has(Fault::PageOneShort) => {
+                let short = out.len().saturating_sub(1);
+                self.sound.run(rack, command, &mut out[..short])
+            }
             _ => {
                 let mut reply = self.sound.run(rack, command, out);
                 self.spoil(&mut reply, out);

@@ -23,6 +23,7 @@ impl Engine for Product {
             }
             Command::Take { message } => Reply::Answered(self.take_in(rack, message)),
             Command::List { .. } => Reply::Listed(calls::list(state, store, out)),
+            Command::Page { start, .. } => Reply::Paged(calls::page(state, store, start, out)),
             Command::Lookup { label } => Reply::Looked(calls::lookup(state, store, label)),
             Command::Compact => Reply::Answered(calls::compact(state, store)),
             Command::Key { key, .. } => Reply::Wrote(key.written_by(calls::write_key, out)),

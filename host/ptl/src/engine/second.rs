@@ -4,7 +4,7 @@
 use super::Engine;
 use crate::script::{Command, KeyToWrite, Rack, Reply};
 use limits::{DOT_SIZE, KEY_FRONT, KEY_MIDDLE, MESSAGE_HEAD};
-use ptl::calls::{KeyRead, Listed, Looked, MessageRead, Span, Wrote};
+use ptl::calls::{KeyRead, Listed, Looked, MessageRead, Paged, Span, Wrote};
 use ptl::{Actor, State};
 use reference::limits::ROW_WORDS;
 use reference::KeyKind;
@@ -37,6 +37,9 @@ impl Engine for Second {
                 Reply::Answered(leave(state, done).answer)
             }
             Command::List { .. } => listed(reference::list(&of_block(state), store, out)),
+            Command::Page { start, .. } => {
+                paged(reference::page(&of_block(state), store, start, out))
+            }
             Command::Lookup { label } => looked(reference::lookup(&of_block(state), store, label)),
             Command::Compact => {
                 let done = reference::compact(&of_block(state), store);
@@ -66,6 +69,15 @@ fn listed(listed: reference::Listed) -> Reply {
         answer: listed.answer,
         written: listed.written as usize,
         labels: listed.labels as usize,
+    })
+}
+
+fn paged(paged: reference::Paged) -> Reply {
+    Reply::Paged(Paged {
+        answer: paged.answer,
+        written: paged.written as usize,
+        labels: paged.labels as usize,
+        more: paged.more,
     })
 }
 

@@ -2,7 +2,7 @@
 
 use super::fields::{dots, hex, text, Field, KeyType};
 use super::table::{Command, Worded};
-use ptl::calls::{KeyRead, Listed, Looked, MessageRead, Wrote};
+use ptl::calls::{KeyRead, Listed, Looked, MessageRead, Paged, Wrote};
 use ptl::{dots_of, Dot};
 
 #[derive(Clone, Copy, PartialEq, Eq, Debug)]
@@ -10,6 +10,7 @@ pub enum Reply {
     Answered(u8),
     Wrote(Wrote),
     Listed(Listed),
+    Paged(Paged),
     Looked(Looked),
     Key(KeyRead),
     Message(MessageRead),
@@ -22,6 +23,7 @@ impl Reply {
             Reply::Answered(answer) => *answer,
             Reply::Wrote(wrote) => wrote.answer,
             Reply::Listed(listed) => listed.answer,
+            Reply::Paged(paged) => paged.answer,
             Reply::Looked(looked) => looked.answer,
             Reply::Key(read) => read.answer,
             Reply::Message(read) => read.answer,
@@ -34,6 +36,10 @@ impl Reply {
             (Reply::Wrote(wrote), _) => format!(" {}", front(out, wrote.written)),
             (Reply::Listed(listed), _) => {
                 format!(" {} {}", listed.labels, front(out, listed.written))
+            }
+            (Reply::Paged(paged), _) => {
+                let written = front(out, paged.written);
+                format!(" {} {} {written}", paged.labels, follow(paged))
             }
             (Reply::Looked(looked), _) => {
                 let yes = if looked.listed { "yes" } else { "no" };
@@ -50,6 +56,15 @@ impl Reply {
 /// The bytes written at the front of an output.
 fn front(out: &[u8], written: usize) -> String {
     hex(&out[..written.min(out.len())])
+}
+
+/// Whether more follow a page; `-` if it is refused.
+fn follow(paged: &Paged) -> &'static str {
+    match (paged.answer, paged.more) {
+        (0, true) => "more",
+        (0, false) => "ended",
+        _ => "-",
+    }
 }
 
 fn key(read: &KeyRead, bytes: &[u8]) -> String {

@@ -64,14 +64,15 @@ macro_rules! table {
 }
 
 table! {
-    /// "Commands of the base": the calls with their arguments. `out` is the length of the lent
-    /// output; a context is nine bytes a dot.
+    /// "Commands of the base" and of the requests: the calls with their arguments. `out` is the
+    /// length of the lent output; a context is nine bytes a dot.
     Command
     Setup "setup" { actor: Byte, name: Text } => [0, 5];
     Add "add" { label: Text, context: Dots, out: Out } => [0, 1, 5, 6, 8, 9, 10, 11, 12, 13];
     Remove "remove" { context: Dots, out: Out } => [0, 1, 6, 8, 10, 11, 13];
     Take "take" { message: Hex } => [0, 1, 2, 3, 4, 5, 6, 7, 8, 10, 11, 12];
     List "list" { out: Out } => [0, 1, 13];
+    Page "page" { start: Text, out: Out } => [0, 1, 5, 13];
     Lookup "lookup" { label: Text } => [0, 1, 5];
     Compact "compact" => [0, 1];
     Key "key" { key: KeyToWrite, out: Out } => [0, 4, 5, 6, 13];

@@ -6,6 +6,7 @@ use super::lamps::AfterMove;
 use super::radio::Radio;
 use super::station::Station;
 use super::tally::Tally;
+use super::terminal::Terminal;
 use super::weather::Weather;
 use crate::engine::Engine;
 use crate::random::Random;
@@ -46,6 +47,8 @@ pub struct Floor<'a> {
     /// The labels that the racks' move takes away, and what was seen right after it.
     pub moved: Vec<Vec<u8>>,
     pub after_move: AfterMove,
+    /// What a person reads listings with meanwhile.
+    pub terminal: Terminal,
     phase: &'static str,
     seed: u64,
     faults: Vec<String>,
@@ -71,6 +74,7 @@ impl<'a> Floor<'a> {
             samples: Vec::new(),
             moved: Vec::new(),
             after_move: AfterMove::default(),
+            terminal: Terminal::new(seed),
             phase: "set-up",
             seed,
             faults: Vec::new(),
@@ -123,7 +127,7 @@ impl<'a> Floor<'a> {
         self.disagreements
     }
 
-    /// One tick: some messages are sent again, and what arrives is taken in.
+    /// One tick: some messages are sent again, what arrives is taken in, and a page may be read.
     pub fn pass(&mut self, again: usize) {
         self.tick += 1;
         for _ in 0..again {
@@ -142,6 +146,7 @@ impl<'a> Floor<'a> {
         if self.random.chance(1) && self.is_on(at) {
             self.act(at, &Command::Compact);
         }
+        self.use_terminal();
     }
 
     pub fn is_on(&self, at: usize) -> bool {

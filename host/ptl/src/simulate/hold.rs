@@ -25,11 +25,12 @@ impl Floor<'_> {
         }
     }
 
-    /// Holds every box's listing and lamps to its rule.
+    /// Holds every box's listing and lamps to its rule, and its pages to its listing.
     pub fn hold_all(&mut self) {
         for at in 0..RACKS {
             self.hold(at);
             self.hold_lamps(at);
+            self.hold_pages(at);
         }
     }
 

@@ -14,6 +14,7 @@ mod picture;
 mod radio;
 mod station;
 mod tally;
+mod terminal;
 #[cfg(test)]
 mod tests;
 mod weather;
@@ -27,6 +28,7 @@ use picture::Picture;
 use std::fs::File;
 use std::io::{self, Write};
 use tally::Tally;
+use terminal::Counts;
 
 /// What a run is asked for.
 #[derive(Clone, PartialEq, Eq, Debug)]
@@ -115,11 +117,21 @@ const LEGEND: &str = "
 /// What the numbers meant, and the table of lamps.
 fn foot(floor: &Floor, report: &mut dyn Write) -> io::Result<()> {
     let (mistakable, left) = (floor.radio.mistakable, floor.most_left());
+    let Counts {
+        pages,
+        short,
+        listings,
+        changed,
+    } = floor.terminal.counts;
     write!(
         report,
         "{LEGEND}
 {mistakable} garbled copies read as other messages of the set. The format has no check sum: the radio's
 own must stop these, and here it does.
+Pages of a few labels that a hand terminal read while the boxes worked, each held to the rule of what
+the box had accepted by then: {pages}; refused for want of room and read again with more: {short}. Listings
+read to their end: {listings}, of them {changed} of boxes that changed between the pages. After each phase the
+pages of each box, read with nothing between them, were held to its listing.
 Dots that stay in a tombstone after the last compaction: at most {left} of {TOMBSTONE_DOTS_MAX} in a box.
 
 Bins that the lamps of each box light at the end of the day, and whether its listing is that of the

@@ -6,7 +6,7 @@ use crate::rule::tell;
 use crate::script::{Command, Rack, Reply, Worded};
 use limits::STORE_MAX;
 use ptl::{Entry, Listing, State};
-use reference::Rule;
+use reference::{Page, Rule};
 
 /// The store that the first box starts with, how much longer that of each next one is, and by how
 /// much a store grows that stays full.
@@ -156,6 +156,24 @@ impl Station {
                 Some(Listing { bytes, labels })
             }
             _ => None,
+        }
+    }
+
+    /// A page of what the box lists, in an output of this length; or the answer that refuses it.
+    pub fn page(&self, engine: &dyn Engine, start: &[u8], out: usize) -> Result<Page, u8> {
+        let start = start.to_vec();
+        let mut bytes = vec![0; out];
+        match self.ask(engine, &Command::Page { start, out }, &mut bytes) {
+            Reply::Paged(paged) if paged.answer == 0 => {
+                bytes.truncate(paged.written);
+                let (labels, more) = (paged.labels as u64, paged.more);
+                Ok(Page {
+                    bytes,
+                    labels,
+                    more,
+                })
+            }
+            reply => Err(reply.answer()),
         }
     }
 

@@ -1,5 +1,6 @@
 //! The simulation finds what it is for: boxes with one fault each are told, with seed and call.
 
+use super::floor::Floor;
 use super::goods::{label, part_and_bin, Bin, BINS};
 use super::radio::{Cargo, Letter, Radio};
 use super::station::Station;
@@ -66,6 +67,41 @@ fn a_live_key_that_compaction_drops_is_told() {
 #[test]
 fn a_lamp_that_is_lit_for_a_dead_label_is_told() {
     assert!(told(Fault::DeadLabelListed).contains("the lamp of "));
+}
+
+#[test]
+fn a_page_that_is_not_the_rules_is_told() {
+    for fault in [Fault::PageEndsEarly, Fault::PageOneShort] {
+        let line = told(fault);
+        assert!(
+            line.ends_with("gives another page, by the rule of what it accepted"),
+            "{line}"
+        );
+    }
+}
+
+#[test]
+fn pages_that_do_not_join_to_the_listing_are_told() {
+    for (fault, told) in [
+        (None, vec![]),
+        (
+            Some(Fault::PageEndsEarly),
+            vec!["its pages joined are not its listing"],
+        ),
+    ] {
+        let faulty = fault.map(|fault| Faulty::new(&Product, fault));
+        let engine = faulty
+            .as_ref()
+            .map_or(&Product as &dyn Engine, |faulty| faulty);
+        let mut floor = Floor::new(engine, 1);
+        for number in 0..20 {
+            assert!(floor.own(3, &add(&format!("BOLT@B{number}"), &[])));
+        }
+        floor.hold_pages(3);
+        let faults = floor.new_faults();
+        let what = faults.iter().filter_map(|line| line.rsplit(": ").next());
+        assert_eq!(what.collect::<Vec<_>>(), told);
+    }
 }
 
 #[test]

@@ -35,10 +35,11 @@ use world::World;
 type Block = fn(&mut Recording);
 
 /// The fixed blocks, and what each is about.
-const BLOCKS: [(&str, Block); 10] = [
+const BLOCKS: [(&str, Block); 11] = [
     ("Set-ups", edges::set_ups),
     ("Lines that break the form", edges::broken_lines),
     ("Own calls and lookups", edges::own_calls),
+    ("Pages", edges::pages),
     ("Windows", edges::windows),
     ("Largest counters", edges::largest_counters),
     ("Stores", edges::stores),

@@ -115,6 +115,19 @@ impl Bench {
         (done.answer, bytes, done.labels)
     }
 
+    /// A page in an output of this length; refused, it is empty and nothing follows.
+    pub fn page(&self, start: &[u8], room: usize) -> (u8, Page) {
+        let mut out = vec![FILL; room];
+        let done = page(&self.state, &self.store, start, &mut out);
+        let paged = Page {
+            bytes: written(&out, done.written),
+            labels: done.labels,
+            more: done.more,
+        };
+        assert!(done.answer == 0 || paged == no_page());
+        (done.answer, paged)
+    }
+
     pub fn lookup(&self, label: &[u8]) -> Looked {
         lookup(&self.state, &self.store, label)
     }
@@ -140,6 +153,27 @@ pub fn written(out: &[u8], count: u64) -> Vec<u8> {
         "output past what is written"
     );
     bytes.to_vec()
+}
+
+/// A page of no entry that none follows.
+pub fn no_page() -> Page {
+    Page {
+        bytes: Vec::new(),
+        labels: 0,
+        more: false,
+    }
+}
+
+/// The label of the last entry of a listing or a page.
+pub fn last_label(entries: &[u8]) -> Option<&[u8]> {
+    let (mut rest, mut last) = (entries, None);
+    while let [length, after @ ..] = rest {
+        let (label, after) = after.split_at(usize::from(*length));
+        let count = usize::from(u16::from_be_bytes([after[0], after[1]]));
+        last = Some(label);
+        rest = &after[2 + 9 * count..];
+    }
+    last
 }
 
 /// Nine bytes a dot, written by hand.

@@ -82,6 +82,7 @@ fn call(controller: &mut Controller, word: &[u8], given: &Fields) -> Result<Stri
         b"remove" => controller.remove(&given.field(1, dots)?, given.last(2, size::<OUT>)?),
         b"take" => controller.take(&given.last(1, hex)?),
         b"list" => controller.list(given.last(1, size::<OUT>)?),
+        b"page" => controller.page(&given.field(1, text)?, given.last(2, size::<OUT>)?),
         b"lookup" => controller.lookup(&given.last(1, text)?),
         b"compact" => given.end(0).map(|()| controller.compact())?,
         b"state" => given.end(0).map(|()| controller.shown_state())?,

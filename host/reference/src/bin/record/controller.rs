@@ -57,6 +57,18 @@ impl Controller {
         format!("list {} {} {listed}", done.answer, done.labels)
     }
 
+    pub fn page(&self, start: &[u8], room: usize) -> String {
+        let mut out = vec![FILL; room];
+        let done = page(&self.state, &self.store, start, &mut out);
+        let follow = match (done.answer, done.more) {
+            (DONE, true) => "more",
+            (DONE, false) => "ended",
+            _ => "-",
+        };
+        let written = front(&out, done.written);
+        format!("page {} {} {follow} {written}", done.answer, done.labels)
+    }
+
     pub fn lookup(&self, label: &[u8]) -> String {
         let done = lookup(&self.state, &self.store, label);
         let listed = if done.listed { "yes" } else { "no" };

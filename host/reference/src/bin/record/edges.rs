@@ -5,7 +5,7 @@ use crate::recording::{Node, Recording, AMPLE};
 use reference::{DAMAGED, STORE_FULL};
 
 /// Lines that break the form: no command, a field too few, no number.
-const BROKEN: [&str; 14] = [
+const BROKEN: [&str; 16] = [
     "x",
     "Compact",
     "setups 1 R1",
@@ -13,12 +13,14 @@ const BROKEN: [&str; 14] = [
     "add B7 -",
     "remove -",
     "take",
+    "page -",
     "lookup",
     "buffer 64",
     "setup x R1",
     "add B7 - 1x",
     "remove - -1",
     "list 007",
+    "page B7 x",
     "buffer 6F 0",
 ];
 
@@ -172,6 +174,53 @@ fn outputs(node: &mut Node) {
     }
 }
 
+/// Pages of labels with one, two and three dots and of one whose dot is removed.
+pub fn pages(recording: &mut Recording) {
+    let mut node = recording.start(3, 1, b"R1", 256);
+    node.page(b"", 0);
+    let labels: [&[u8]; 8] = [b"B8", b"B7", b"A", b"B7", b"C", b"A", b"B7", &[255; 32]];
+    for label in labels {
+        node.add(label, b"");
+    }
+    node.remove(&dots(&[(1, 1)]));
+    page_outputs(&mut node);
+    between_pages(&mut node);
+}
+
+/// Outputs that end at each entry and next to it; starting labels on both sides of each label and of
+/// their rule.
+fn page_outputs(node: &mut Node) {
+    for out in [0, 21, 22, 23, 53, 54, 66, 67, 110, 111, AMPLE] {
+        node.page(b"", out);
+    }
+    let starts: [&[u8]; 13] = [
+        b"\x01", b"@", b"A", b"A0", b"B6", b"B7", b"B70", b"B8", b"B9", b"C", &[254; 32],
+        &[255; 31], &[255; 32],
+    ];
+    for start in starts {
+        node.page(start, 13);
+        node.page(start, AMPLE);
+    }
+    for start in [&[255; 33][..], &[7; 256], b"\x00", b"A\x00", b"B\x007"] {
+        node.page(start, AMPLE);
+        node.page(start, 0);
+    }
+}
+
+/// Calls between the pages of a listing.
+fn between_pages(node: &mut Node) {
+    node.page(b"", 30);
+    node.add(b"0", &dots(&[(1, 3)]));
+    node.page(b"A", 40);
+    node.remove(&dots(&dots_of(1, 2..=7)));
+    node.page(b"B7", 44);
+    node.compact();
+    node.page(b"B7", 44);
+    node.page(b"", 14);
+    node.remove(&dots(&[(1, 8), (1, 9)]));
+    node.page(b"", 0);
+}
+
 /// Windows of 64 events: their ends, a window that becomes full, the largest counter.
 pub fn windows(recording: &mut Recording) {
     let mut node = recording.start(3, 2, b"R1", 256);
@@ -318,6 +367,8 @@ pub fn damage(recording: &mut Recording) {
         node.remove(b"");
         node.take(&remove_message(b"R1", &[]));
         node.list(AMPLE);
+        node.page(b"", AMPLE);
+        node.page(b"\x00", 0);
         node.lookup(b"B7");
         let last = node.say("compact");
         assert_eq!(last.answer, Some(DAMAGED), "{poke}");

@@ -10,12 +10,13 @@ pub const AMPLE: usize = 1024;
 /// The controllers that are spoken to.
 pub const CONTROLLERS: usize = 4;
 /// The commands that are calls.
-pub const CALLS: [&str; 10] = [
+pub const CALLS: [&str; 11] = [
     "setup",
     "add",
     "remove",
     "take",
     "list",
+    "page",
     "lookup",
     "compact",
     "key",
@@ -181,6 +182,10 @@ impl Node<'_> {
 
     pub fn list(&mut self, out: usize) {
         self.say(&format!("list {out}"));
+    }
+
+    pub fn page(&mut self, start: &[u8], out: usize) {
+        self.say(&format!("page {} {out}", text_of(start)));
     }
 
     pub fn lookup(&mut self, label: &[u8]) {

@@ -67,12 +67,13 @@ impl World<'_> {
             22..=33 => self.remove(random, at),
             34..=38 => self.node(at).compact(),
             39..=41 => self.list(random, at),
-            42..=47 => self.lookup(random, at),
-            48..=50 => self.lend(random, at),
-            51..=52 => self.key(random, at),
-            53..=59 if self.wild => self.stray(random, at),
-            60..=65 if self.wild => self.garbled(random, at),
-            66 if self.wild => self.damaged(random, at),
+            42..=45 => self.page(random, at),
+            46..=50 => self.lookup(random, at),
+            51..=53 => self.lend(random, at),
+            54..=55 => self.key(random, at),
+            56..=62 if self.wild => self.stray(random, at),
+            63..=68 if self.wild => self.garbled(random, at),
+            69 if self.wild => self.damaged(random, at),
             _ => self.deliver(random, at),
         }
     }
@@ -149,6 +150,23 @@ impl World<'_> {
         let needed = self.node(at).listing().len();
         let out = self.out(random, needed);
         self.node(at).list(out);
+    }
+
+    /// A page from the front or after a label, in an output for some of the listing.
+    fn page(&mut self, random: &mut Xorshift, at: usize) {
+        let start: &[u8] = if random.chance(30) {
+            b""
+        } else {
+            self.label(random)
+        };
+        let most = self.node(at).listing().len() as u64;
+        let needed = random.below(most + 1) as usize;
+        let out = if random.chance(70) {
+            needed
+        } else {
+            self.out(random, needed)
+        };
+        self.node(at).page(start, out);
     }
 
     fn lookup(&mut self, random: &mut Xorshift, at: usize) {

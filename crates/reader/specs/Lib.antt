@@ -1,0 +1,2 @@
+-- Reading: where a key ends.
+pub mod Reading
