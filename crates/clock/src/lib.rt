@@ -2,9 +2,9 @@
 ghost use mathlib.Core.Path.{_≡_};
 ghost use mathlib.Core.Bool.{true};
 ghost use mathlib.Core.List.{_∷_};
-ghost use Prim.Native.Nat.{_+_, _≤_};
+ghost use Prim.Native.Nat.{_+_, _≤_, _<_};
 ghost use Rattle.wire.specs.Loans.{before, after};
-ghost use Rattle.dots.specs.Dots.{maxCounter};
+ghost use Rattle.dots.specs.Dots.{maxCounter, actorMost, actorOf, dotOf};
 ghost use Rattle.dots.specs.Wire.{dotsOf};
 ghost use Rattle.clock.specs.Row.{windowWidth, seen as isSeen, wellFormed, inReach, trailingOnes, settled, join as joined};
 ghost use Rattle.clock.specs.Code.{rowOf};
@@ -159,6 +159,31 @@ pub fn sees(words: &Words, dot: dots::Dot) -> bool
     ensures { λ r. ⌜ r ≡ isSeenBy (before words) dot ⌝ }
 {
     row_sees(row_of(words, dot.actor), dot.counter.number)
+}
+
+// The base of an actor's row; the actor is told by its number less 1.
+fn base_at(words: &Words, row: u64) -> u64
+    requires { ⌜ row < actorMost ⌝ }
+    ensures { λ r. ⌜ r ≡ rowAt (before words) (row + 1) .base ⌝ }
+{
+    let first = row as usize * ROW_WORDS;
+    words[first]
+}
+
+// Whether the clock sees an event of an actor, told by its number less 1. Most events are not above the base.
+pub fn sees_event(words: &Words, row: u64, event: u64) -> bool
+    requires { ⌜ row < actorMost ⌝ }
+    ensures { λ r. ⌜ r ≡ isSeenBy (before words) (dotOf (actorOf (row + 1)) event) ⌝ }
+{
+    if std::num::wrapping_sub_u64(event, 1) < base_at(words, row) {
+        return true;
+    }
+    let actor = (row + 1) as u8;
+    let dot = dots::Dot {
+        actor: dots::Actor { number: actor },
+        counter: dots::Counter { number: event },
+    };
+    sees(words, dot)
 }
 
 // Whether every row keeps its rules.

@@ -9,11 +9,12 @@ use native.Mathlib.Decide.{decLt}
 use native.Mathlib.Omega.{arith}
 use lib.Dec.{lit<}
 use lib.ListN.{length, take, drop, getD}
-use lib.Bits.{bitAnd, and-block, and-comm, and-le-l, and-le-r, and-lt, and-shifted, shifted-even, shifted-half}
-use lib.Count.{trailingZeros}
+use lib.Bits.{bitAnd, and-block, and-comm, and-le-l, and-le-r, and-lt, and-shifted, and-step, shifted-even, shifted-half}
+use lib.Count.{trailingZeros, trailing-le, trailing-of-zero, under}
 use mir.Syntax.{w8}
 use mir.Val.{Fits}
 use Rattle.wire.specs.Bytes.{littleEndian, fromLittleEndian, lowNumberAt, zeroAt}
+use Rattle.search.specs.Marks.{markPlace}
 use Rattle.wire.proofs.LittleEndian.{littleEndian-from}
 use Rattle.wire.proofs.Fields.{part-back, part-length, part-written}
 
@@ -68,6 +69,40 @@ trailing-unmarked n m =
     let size : n + 8 ≡ 8 + n = omega arith in
     let shift : m * 256 + 0 ≡ m * 2 ^ 8 = omega arith in
     rw (size, shift) (omega (arith, trailing-shifted 8 n m))
+
+-- a number that is not 0 has fewer than all
+trailing-some : (k n : ℕ) → 0 < n → n < 2 ^ k → trailingZeros k n < k
+unfolding trailingZeros
+trailing-some zero n some h = absurd (omega arith)
+trailing-some (suc k) n some h = by-digit (n % 2) refl (trailing-some k (n / 2))
+  where
+    by-digit : (d : ℕ) → n % 2 ≡ d → (0 < n / 2 → n / 2 < 2 ^ k → trailingZeros k (n / 2) < k) → under d (trailingZeros k (n / 2)) < suc k
+    by-digit zero e ih = omega (arith, ih (omega arith) (omega arith))
+    by-digit (suc d) e ih = omega arith
+
+-- the lowest set digit alone: m and x together are a multiple of the power of 2
+trailing-lowest : (n m x c : ℕ) → x + m ≡ c * 2 ^ n → trailingZeros n (bitAnd m x) ≡ trailingZeros n m
+unfolding trailingZeros
+trailing-lowest zero m x c e = refl
+trailing-lowest (suc n) m x c e = by-digit (m % 2) refl (x % 2) refl (trailing-lowest n (m / 2) (x / 2) c)
+  where
+    whole : c * 2 ^ suc n ≡ c * 2 ^ n * 2
+    whole = rw (pow-suc, mul-assoc)
+
+    rest : bitAnd m x / 2 ≡ bitAnd (m / 2) (x / 2)
+    rest = omega (arith, and-step m x)
+
+    by-digit : (d : ℕ) → m % 2 ≡ d → (f : ℕ) → x % 2 ≡ f → (x / 2 + m / 2 ≡ c * 2 ^ n → trailingZeros n (bitAnd (m / 2) (x / 2)) ≡ trailingZeros n (m / 2))
+        → under (bitAnd m x % 2) (trailingZeros n (bitAnd m x / 2)) ≡ under (m % 2) (trailingZeros n (m / 2))
+    by-digit zero p zero q ih =
+        let none : bitAnd m x % 2 ≡ 0 = omega (arith, and-step m x) in
+        rw (none, p, rest) (ap suc (ih (omega (arith, whole))))
+    by-digit (suc d) p (suc f) q ih =
+        let one : bitAnd m x % 2 ≡ 1 = omega (arith, and-step m x) in
+        let odd : m % 2 ≡ 1 = omega arith in
+        rw (one, odd)
+    by-digit zero p (suc f) q ih = absurd (omega (arith, whole))
+    by-digit (suc d) p zero q ih = absurd (omega (arith, whole))
 
 -- ---- the marks
 
@@ -129,9 +164,27 @@ marks-zero (suc k) d w c h e = step (decLt 0 (w % 256)) (λ f. marks-zero k (d /
 
 -- a word, in the terms of the code
 pub word-zero : (d w : ℕ) → w < 2 ^ 64 → (d + 72340172838076673) % 2 ^ 64 ≡ w
-    → trailingZeros 64 (bitAnd (bitAnd d (2 ^ 64 - 1 - w)) 9259542123273814144) / 8 ≡ zeroAt (littleEndian 8 w)
-unfolding onesIn marks
+    → markPlace (bitAnd (bitAnd d (2 ^ 64 - 1 - w)) 9259542123273814144) ≡ zeroAt (littleEndian 8 w)
+unfolding onesIn marks markPlace
 word-zero d w h e = marks-zero 8 d w ((d + 72340172838076673) / 2 ^ 64) h (omega arith)
+
+-- ---- the place of the lowest mark
+
+pub place-le : (m : ℕ) → markPlace m ≤ 8
+unfolding markPlace
+place-le m = omega (arith, trailing-le 64 m)
+
+pub place-none : markPlace 0 ≡ 8
+unfolding markPlace
+place-none = rw trailing-of-zero
+
+pub place-some : (m : ℕ) → (m ≡ 0 → ⊥) → m < 2 ^ 64 → markPlace m < 8
+unfolding markPlace
+place-some m some h = omega (arith, trailing-some 64 m (omega (arith, some)) h)
+
+pub place-lowest : (m x : ℕ) → (x + m) % 2 ^ 64 ≡ 0 → markPlace (bitAnd m x) ≡ markPlace m
+unfolding markPlace
+place-lowest m x e = rw (trailing-lowest 64 m x ((x + m) / 2 ^ 64) (omega arith))
 
 -- ---- the words of a list
 

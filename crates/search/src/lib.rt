@@ -5,6 +5,7 @@ ghost use lib.ListN.{length, take, drop};
 ghost use Rattle.wire.specs.Loans.{before};
 ghost use Rattle.wire.specs.Lists.{isLt};
 ghost use Rattle.wire.specs.Bytes.{partAt, compareBytes, littleEndian, zeroAt, startsWith};
+ghost use Rattle.search.specs.Marks.{markPlace};
 
 // ---- order and search, by words of several bytes
 
@@ -73,12 +74,32 @@ pub fn lower(a: &[u8], b: &[u8]) -> bool
     lower_words(a, b, n)
 }
 
+// Marks of the bytes of a word that are 0: the high bit of each, and no bit below the lowest of these.
+pub fn zero_marks(w: u64) -> u64
+    ensures { λ r. ⌜ markPlace r ≡ zeroAt (littleEndian 8 w) ⌝ }
+{
+    std::num::wrapping_sub_u64(w, 0x0101010101010101) & !w & 0x8080808080808080
+}
+
+// The lowest of the marks alone.
+pub fn lowest_mark(marks: u64) -> u64
+    ensures { λ r. ⌜ markPlace r ≡ markPlace marks ⌝ }
+{
+    marks & std::num::wrapping_sub_u64(0, marks)
+}
+
+// Which byte has the lowest mark, and 8 if none has.
+pub fn mark_place(marks: u64) -> usize
+    ensures { λ r. ⌜ (r ≡ markPlace marks) × (r ≤ 8) ⌝ }
+{
+    (u64::trailing_zeros(marks) / 8) as usize
+}
+
 // The index of the lowest byte of a word that is 0, and 8 if none is.
-pub fn first_zero(w: u64) -> usize
+fn first_zero(w: u64) -> usize
     ensures { λ r. ⌜ (r ≡ zeroAt (littleEndian 8 w)) × (r ≤ 8) ⌝ }
 {
-    let marks = std::num::wrapping_sub_u64(w, 0x0101010101010101) & !w & 0x8080808080808080;
-    (u64::trailing_zeros(marks) / 8) as usize
+    mark_place(zero_marks(w))
 }
 
 // The index of the first 0 of s from a place on, or the length of s.
@@ -124,6 +145,22 @@ pub fn zero_at(s: &[u8]) -> usize
         return z;
     }
     zero_after(s, 8)
+}
+
+// The first 0 among 40 bytes from a place on, the first 8 of which have none, and 40 if the others have none.
+pub fn zero_near(s: &[u8], at: usize) -> usize
+    requires { ⌜ (at + 40 ≤ length (now s)) × (zeroAt (drop at (now s)) ≡ 8 + zeroAt (drop (at + 8) (now s))) ⌝ }
+    ensures { λ r. ⌜ r ≡ min 40 (zeroAt (drop at (before s))) ⌝ }
+{
+    let mut i = 8;
+    while i < 40 {
+        let marks = zero_marks(wire::low_at(s, at + i));
+        if marks != 0 {
+            return i + mark_place(marks);
+        }
+        i += 8;
+    }
+    40
 }
 
 // Whether s, which is no shorter than a, begins with a from a place on.

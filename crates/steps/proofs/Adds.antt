@@ -6,13 +6,13 @@ use mathlib.Core.Bool.{Bool, true, false, not, cond, _&&_, or-false}
 use mathlib.Core.List.{List, [], _∷_}
 use native.Mathlib.Omega.{arith}
 use lib.Dec.{ltb}
-use lib.ListN.{length, take, getD}
+use lib.ListN.{length, getD}
 use mir.Val.{Fits}
 use mir.Syntax.{w8}
 use lib.Seq.{length-take-le}
 use Rattle.wire.specs.Lists.{any, all}
 use Rattle.wire.specs.Bytes.{Bytes}
-use Rattle.wire.proofs.Tests.{both, decided}
+use Rattle.wire.proofs.Tests.{decided}
 use Rattle.dots.specs.declared.Dot.{Dot}
 use Rattle.dots.specs.Names.{Label}
 use Rattle.dots.specs.Dots.{dotOk}
@@ -24,9 +24,7 @@ use Rattle.clock.specs.Clock.{sees, joinAll}
 use Rattle.clock.specs.Reach.{CanJoinContext, CanJoinWithDot}
 use Rattle.keys.specs.Entry.{entryKey}
 use Rattle.keys.proofs.EntryKeys.{length-entry-key}
-use Rattle.store.specs.Valid.{usedOk, storeOk}
 use Rattle.store.specs.Place.{insertedEntry}
-use Rattle.store.proofs.OnePass.{used-begin}
 use Rattle.replica.specs.Machine.{ifUnseen}
 use Rattle.calls.specs.declared.State.{State}
 use Rattle.calls.specs.declared.Head.{Head}
@@ -72,10 +70,6 @@ module _ (st : State) (store label context : Bytes) (d : Dot) (m : MayApply st s
   ok : all dotOk (dotsOf context) ≡ true
   ok = ascending-valid (dotsOf context) (m .joins .fits .ascends)
 
-  used-ok : usedOk (nameOf st) (st .clock .words) (take (st .used) store) ≡ true
-  unfolding storeOk
-  used-ok = let stored = u .stored in search both
-
   named : length (nameOf st) ≡ st .name .len
   named = name-length st (m .sized) (m .joins .state-ok)
 
@@ -90,7 +84,6 @@ module _ (st : State) (store label context : Bytes) (d : Dot) (m : MayApply st s
         short = omega arith;
         named = k .named;
         labelled = m .labelled;
-        begins = used-begin (nameOf st) (st .clock .words) (take (st .used) store) used-ok;
         room-for = m .room-for unseen;
         front = front;
       })

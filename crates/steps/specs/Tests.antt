@@ -5,8 +5,8 @@ use mathlib.Core.List.{List, [], _∷_}
 use mathlib.Core.Path.{_≡_}
 use lib.Dec.{isEq, leb, ltb}
 use lib.ListN.{length, take}
-use Rattle.wire.specs.Lists.{all, keep, member, insert, insertAll}
-use Rattle.wire.specs.Bytes.{Bytes, startsWith}
+use Rattle.wire.specs.Lists.{keep, member, insert, insertAll}
+use Rattle.wire.specs.Bytes.{Bytes}
 use Rattle.dots.specs.Answer.{Refusals, firstOf}
 use Rattle.dots.specs.declared.Answer.{Answer}
 use Rattle.dots.specs.declared.Answer.the-variants.{Done, Damaged, BadName, BadDot, OwnAhead, CounterEnd, TooFar, TombstoneFull, StoreFull, OutputShort}
@@ -18,8 +18,6 @@ use Rattle.dots.specs.Entries.{entry}
 use Rattle.dots.specs.Dots.{Context, dotOf, dotOk, compareActors, compareDots, ascendingDots, contextMost, tombstoneMost}
 use Rattle.clock.specs.Row.{windowWidth}
 use Rattle.clock.specs.Clock.{sees, rowAt, joinAll, near}
-use Rattle.keys.specs.Entry.{prefix}
-use Rattle.store.specs.Cut.{keysOf}
 use Rattle.store.specs.Place.{insertedEntry, LabelPassed}
 use Rattle.replica.specs.Machine.{apply, ifUnseen}
 use Rattle.store.specs.Valid.{storeMost}
@@ -180,7 +178,6 @@ pub record EntryFits (head : Head) (store label : Bytes) (low : ℕ) : Type 0 wh
   pub short : head .name .len ≤ length (head .name .bytes)
   pub named : nameOk (headName head) ≡ true
   pub labelled : labelOk label ≡ true
-  pub begins : all (startsWith (prefix (headName head))) (keysOf (length (headName head)) (take (head .used) store)) ≡ true
   pub room-for : head .used + (head .name .len + length label + labelKeyFixed) ≤ length store
   pub front : LabelPassed (headName head) label (take (head .used) store) low
 

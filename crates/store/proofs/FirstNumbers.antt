@@ -11,7 +11,7 @@ use mir.Syntax.{w8}
 use lib.Dec.{eqb, ltb}
 use lib.ListN.{length, take, drop, getD}
 use lib.Seq.{take-take, drop-drop}
-use borrow.Author.Tests.{lt-ltb, ltb-true, eqb-true, eqb-false}
+use borrow.Author.Tests.{lt-ltb, eqb-true, eqb-false}
 use Rattle.wire.specs.Lists.{then, isLt, compareLists}
 use Rattle.wire.specs.Bytes.{Bytes, AreBytes, compareBytes, numberAt, fromBigEndian}
 use Rattle.wire.proofs.Orders.{numbers-self, isLt-differs}
@@ -45,6 +45,13 @@ numbers-read s from to word half h l e f =
 pub numbers-none : (s : Bytes) → FirstNumbers s 0 0 0 0
 unfolding fromBigEndian
 numbers-none s = record { order = omega arith; within = omega arith; long = λ h. absurd (omega arith); first = refl; second = refl }
+
+-- bytes that are some have room for both
+pub tail-room : (s : Bytes) (from to word half : ℕ) → FirstNumbers s from to word half → (from ≡ to → ⊥) → from + 8 ≤ to
+tail-room s from to word half n h = omega (arith, n .long (omega (arith, n .order, h)))
+
+pub tail-some : (s : Bytes) (from to word half : ℕ) → FirstNumbers s from to word half → from < to → from + 8 ≤ to
+tail-some s from to word half n h = omega (arith, n .long h)
 
 some-long : (s : Bytes) (from to word half : ℕ) → FirstNumbers s from to word half → from < to → 12 ≤ length (take (to - from) (drop from s))
 some-long s from to word half n h = rw (part-length s from (to - from) (omega arith)) (omega (arith, n .long h))
@@ -105,33 +112,33 @@ module _ (s : Bytes) (small : (i : ℕ) → Fits w8 (getD s i 0)) (label at next
     | no h ↦ after-none (omega arith)
   ]
 
--- the first numbers of ascending bytes do not fall
+-- where the numbers are equal, the bytes after the first 8 decide
 module _ (s : Bytes) (small : (i : ℕ) → Fits w8 (getD s i 0)) (label at next end word half word′ half′ : ℕ)
     (old : FirstNumbers s label at word half) (new : FirstNumbers s next end word′ half′) (some : next < end)
-    (ordered : isLt (compareBytes (take (at - label) (drop label s)) (take (end - next) (drop next s))) ≡ true) where
-  from-none : at ≤ label → word ≤ word′
-  unfolding fromBigEndian
-  from-none h =
-      let none : at - label ≡ 0 = omega arith in
-      let no-word : word ≡ 0 = old .first ∙ rw none in
-      omega arith
-
-  from-some : label < at → word ≤ word′
-  from-some h = by-test (eqb word word′) refl
+    (low high : ℕ) (is-low : low ≡ cond (eqb word word′) half word) (is-high : high ≡ cond (eqb word word′) half′ word′) (d : low ≡ high) where
+  same-word : word ≡ word′
+  same-word = by-test (eqb word word′) refl
     where
-      bytes-at : (i n : ℕ) → AreBytes (take n (drop i s))
-      bytes-at i n = bytes-take (drop i s) n (bytes-drop s i (λ k. small k .fits))
+      by-test : (t : Bool) → eqb word word′ ≡ t → word ≡ word′
+      by-test true e = eqb-true word word′ e
+      by-test false e = sym (is-low ∙ rw e) ∙ d ∙ is-high ∙ rw e
 
-      lower : isLt (then (compare word word′) (then (compare half half′) (compareBytes (drop 12 (take (at - label) (drop label s))) (drop 12 (take (end - next) (drop next s)))))) ≡ true
-      lower = rw (old .first, old .second, new .first, new .second)
-          (rw (by-numbers (take (at - label) (drop label s)) (take (end - next) (drop next s)) (bytes-at label (at - label)) (bytes-at next (end - next)) (some-long s label at word half old h) (some-long s next end word′ half′ new some)) at ordered)
+  -- what follows the first 8 bytes of a part
+  later : (i j : ℕ) → take (j - (i + 8)) (drop (i + 8) s) ≡ drop 8 (take (j - i) (drop i s))
+  later i j = let left : j - (i + 8) ≡ j - i - 8 = omega arith in rw (left, drop-take 8 (j - i) (drop i s), drop-drop 8 i s)
 
-      by-test : (t : Bool) → eqb word word′ ≡ t → word ≤ word′
-      by-test true e = let same = eqb-true word word′ e in omega arith
-      by-test false e = let less = ltb-true word word′ (sym (isLt-differs word word′ _ (eqb-false word word′ e)) ∙ lower) in omega arith
+  pub rest-decides : (label ≡ at → ⊥) → (r : Bool) → r ≡ isLt (compareBytes (take (at - (label + 8)) (drop (label + 8) s)) (take (end - (next + 8)) (drop (next + 8) s)))
+      → r ≡ isLt (compareBytes (take (at - label) (drop label s)) (take (end - next) (drop next s)))
+  rest-decides h r e =
+      let more : label < at = omega (arith, old .order, h) in
+      let bytes-at : (i n : ℕ) → AreBytes (take n (drop i s)) = λ i n. bytes-take (drop i s) n (bytes-drop s i (λ k. small k .fits)) in
+      let a : Bytes = take (at - label) (drop label s) in
+      let b : Bytes = take (end - next) (drop next s) in
+      let first : compareBytes a b ≡ then (compare word word′) (compareBytes (drop 8 a) (drop 8 b)) =
+      rw (old .first, new .first) (compare-words a b (bytes-at label (at - label)) (bytes-at next (end - next)) 8 0 (omega (arith, some-long s label at word half old more)) (omega (arith, some-long s next end word′ half′ new some))) in
+      e ∙ rw (later label at, later next end) (sym (ap isLt first ∙ rw (same-word, numbers-self)))
 
-  pub numbers-ascend : word ≤ word′
-  numbers-ascend = elim (decLt label at) [
-    | yes h ↦ from-some h
-    | no h ↦ from-none (omega arith)
-  ]
+  pub after-none-first : label ≡ at → true ≡ isLt (compareBytes (take (at - label) (drop label s)) (take (end - next) (drop next s)))
+  after-none-first e =
+      let none : at - label ≡ 0 = omega arith in
+      sym (rw none (none-before (take (end - next) (drop next s)) (omega (arith, some-long s next end word′ half′ new some))))

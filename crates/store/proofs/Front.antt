@@ -1,6 +1,6 @@
 -- The key at the front of some bytes: the tests of its bytes, after the prefix and whole, are the rules of a stored key. Assumes nothing.
 use mathlib.Core.Path.{_≡_, refl, sym, ap, _∙_}
-use mathlib.Core.Bool.{Bool, true, false, not, cond, _&&_, and-assoc}
+use mathlib.Core.Bool.{Bool, true, false, not, cond, _&&_, and-assoc, and-false, true≢false}
 use mathlib.Core.List.{List, [], _∷_}
 use mathlib.Core.Option.{none, some}
 use Prim.Native.Nat.{ℕ, zero, suc, _+_, _-_, _≤_, _<_, _^_, min}
@@ -11,8 +11,8 @@ use mir.Syntax.{w8, w64}
 use lib.Dec.{leb, eqb}
 use lib.ListN.{length, take, drop, getD, length-append, length-take, length-drop}
 use lib.Seq.{take-all, take-take, getD-take, length-take-le}
-use borrow.Author.Tests.{not-true, not-false, eqb-true, eq-eqb, ne-eqb}
-use Rattle.wire.specs.Bytes.{Bytes, numberAt, zeroAt, startsWith}
+use borrow.Author.Tests.{not-true, not-false, le-leb, eqb-true, eq-eqb, ne-eqb}
+use Rattle.wire.specs.Bytes.{Bytes, between, numberAt, zeroAt, startsWith}
 use Rattle.wire.proofs.Tests.{both}
 use Rattle.wire.proofs.ByteOrder.{starts-split}
 use Rattle.wire.proofs.Parts.{rest-part, drop-take}
@@ -24,10 +24,12 @@ use Rattle.keys.specs.Entry.{prefix}
 use Rattle.keys.specs.Tests.{labelAfter, entryAfter, entryBy}
 use Rattle.keys.proofs.EntryKeys.{length-prefix}
 use Rattle.keys.proofs.EntryTests.{entry-tests}
-use Rattle.clock.specs.Clock.{sees}
+use Rattle.clock.specs.Clock.{sees, rowAt}
+use Rattle.clock.proofs.Rows.{seen-up-to}
 use Rattle.store.specs.Cut.{keyLength}
 use Rattle.store.specs.Valid.{seenEntry, keyOk}
 use Rattle.store.specs.Front.{frontLength, afterLength}
+use Rattle.store.specs.Pass.{dotSeen}
 use Rattle.keys.specs.Key.{suffixSize, prefixFixed}
 
 -- ---- a front of bytes: its first 0, and what it begins with
@@ -79,6 +81,36 @@ module _ (words : List ℕ) (t : Bytes) (n : ℕ) (label : n ≡ zeroAt t) where
 
       pub after-unseen : seen ≡ false → 0 ≡ afterLength words t
       after-unseen s = sym (tested ∙ rw (not-false shape h, ← known, s))
+
+-- a label that breaks its rule
+pub after-bad : (words : List ℕ) (t : Bytes) → between 1 labelMost (zeroAt t) ≡ false → afterLength words t ≡ 0
+unfolding afterLength labelAfter
+after-bad words t bad =
+    let zero-at : zeroAt (take (zeroAt t + suffixSize) t) ≡ zeroAt t = zeroAt-take (zeroAt t + suffixSize) t ∙ omega arith in
+    rw (zero-at, bad, and-false)
+
+-- a label that keeps its rule: the dot decides
+counted : (words : List ℕ) (a e : ℕ) → (leb 1 e && sees words (dotOf (actorOf a) e)) ≡ sees words (dotOf (actorOf a) e)
+unfolding sees
+counted words a zero = sym (seen-up-to (rowAt words a) 0 (omega arith))
+counted words a (suc e) = rw (le-leb 1 (suc e) (omega arith))
+
+regroup : (l m a b c s : Bool) → (l && m) ≡ true → (c && s) ≡ s → (l && m && a && b && c && s) ≡ (a && b && s)
+regroup true true true true c s h e = e
+regroup true true true false c s h e = refl
+regroup true true false b c s h e = refl
+regroup true false a b c s h e = absurd (true≢false (sym h))
+regroup false m a b c s h e = absurd (true≢false (sym h))
+
+pub after-told : (words : List ℕ) (t : Bytes) (n : ℕ) → n ≡ zeroAt t → between 1 labelMost (zeroAt t) ≡ true → n + suffixSize ≤ length t
+    → afterLength words t ≡ cond (dotSeen words t (n + 1)) (n + suffixSize) 0
+unfolding dotSeen
+after-told words t n e ok fits =
+    let second : n + 1 + 1 ≡ n + 2 = omega arith in
+    let third : n + 1 + 2 ≡ n + 3 = omega arith in
+    let label : between 1 labelMost n ≡ true = rw e ok in
+    tested words t n e fits (numberAt 8 t (n + 3)) refl
+    ∙ rw (second, third, regroup (leb 1 n) (leb n labelMost) _ _ _ _ label (counted words (getD t (n + 1) 0) (numberAt 8 t (n + 3))))
 
 -- ---- the whole key
 
@@ -143,6 +175,9 @@ module _ (name : Name) (words : List ℕ) (s : Bytes) where
       is-begun : r ≡ startsWith (prefix name) s
       is-begun = rw is-start at begins
 
+      size : length start ≡ length name + prefixFixed
+      size = ap length is-start ∙ length-prefix name
+
       pub front-other : not r ≡ true → 0 ≡ frontLength name words s
       unfolding frontLength k
       front-other d = rw (key-tests, ← is-begun, not-true r d)
@@ -151,16 +186,16 @@ module _ (name : Name) (words : List ℕ) (s : Bytes) where
         is-prefixed : startsWith (prefix name) s ≡ true
         is-prefixed = sym is-begun ∙ not-false r d
 
-        pub front-fits : length name + prefixFixed ≤ length s
-        front-fits = starts-fit name s is-prefixed
+        pub front-fits : length start ≤ length s
+        front-fits = rw size (starts-fit name s is-prefixed)
 
-        module _ (len : ℕ) (read : len ≡ afterLength words (take (length s - (length name + prefixFixed)) (drop (length name + prefixFixed) s))) where
+        module _ (len : ℕ) (read : len ≡ afterLength words (take (length s - length start) (drop (length start) s))) where
           passes : Bool
           passes = labelAfter u && sees words (entryAfter u .dot)
 
           len-is : len ≡ cond passes (zeroAt t + suffixSize) 0
           unfolding afterLength t u passes
-          len-is = rw rest-part at read
+          len-is = rw (rest-part, size) at read
 
           front-is : frontLength name words s ≡ cond passes (keyLength (length name) s) 0
           unfolding frontLength k passes
@@ -181,15 +216,15 @@ module _ (name : Name) (words : List ℕ) (s : Bytes) where
                 by-tests true f = refl
                 by-tests false f = absurd (some f)
 
-            pub front-end : length s < 2 ^ 64 → Fits w64 (length name + prefixFixed + len)
+            pub front-end : length s < 2 ^ 64 → Fits w64 (length start + len)
             unfolding passes
             front-end h =
                 let all : passes ≡ true = passed in
-                omega (arith, room is-prefixed (search both), rw passed at len-is)
+                omega (arith, room is-prefixed (search both), rw passed at len-is, size)
 
-            pub front-passed : length name + prefixFixed + len ≡ frontLength name words s
+            pub front-passed : length start + len ≡ frontLength name words s
             unfolding passes t keyLength
             front-passed =
                 let all : passes ≡ true = passed in
                 let full : length name + prefixFixed + (zeroAt t + suffixSize) ≤ length s = room is-prefixed (search both) in
-                sym (front-is ∙ rw passed (omega (arith, rw passed at len-is)))
+                sym (front-is ∙ rw passed (omega (arith, rw passed at len-is, size)))

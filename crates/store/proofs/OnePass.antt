@@ -4,39 +4,33 @@ use mathlib.Core.Logic.{_⊎_, inl, inr}
 use mathlib.Core.Bool.{Bool, true, false, not, _&&_, cond}
 use mathlib.Core.List.{List, [], _∷_, _++_, map, append-assoc}
 use Prim.Native.Nat.{ℕ, _+_, _-_, _≤_, _<_}
-use native.Mathlib.Nat.{add-zero}
 use native.Mathlib.Omega.{arith}
 use lib.ListN.{length, take, drop, length-append, length-take, length-drop, drop-of-length-le}
 use lib.Seq.{drop-at, drop-drop}
 use borrow.Author.Tests.{not-true, not-false}
 use Rattle.wire.specs.Lists.{all, isLt, ascendsFrom, ascends}
-use Rattle.wire.specs.Bytes.{Bytes, AreBytes, compareBytes, startsWith, numberAt}
+use Rattle.wire.specs.Bytes.{Bytes, compareBytes}
 use Rattle.wire.proofs.Tests.{both, decided}
-use Rattle.wire.proofs.ByteOrder.{compare-common, starts-itself}
+use Rattle.wire.proofs.ByteOrder.{compare-common}
 use Rattle.wire.proofs.Parts.{rest-part, drop-take}
-use Rattle.wire.proofs.Fields.{bytes-take, bytes-drop}
 use Rattle.dots.specs.Names.{Name}
 use Rattle.dots.specs.Entries.{Entry}
 use Rattle.keys.specs.Entry.{prefix, suffix}
 use Rattle.keys.proofs.EntryKeys.{entry-key-parts, length-prefix, length-suffix}
 use Rattle.store.specs.Cut.{keyLength, keysAfter, keysOf, keySays}
-use Rattle.store.specs.Place.{lowerThan, labelNumber}
+use Rattle.store.specs.Place.{lowerThan}
+use Rattle.store.specs.Pass.{restOk}
 use Rattle.store.specs.Valid.{keyOk, usedOk}
 use Rattle.store.specs.Front.{frontLength}
 use Rattle.store.proofs.Cut.{keyLength-pos, keyLength-le, keysOf-step}
 use Rattle.store.proofs.RoundTrip.{label-size, key-read}
-use Rattle.store.proofs.FirstNumbers.{none-before, number-part}
-use Rattle.store.proofs.Below.{number-below}
+use Rattle.store.proofs.FirstNumbers.{none-before}
 use Rattle.keys.specs.Key.{prefixFixed}
 
 -- the bounds of a key: it has 12 bytes at least from its label on, and ends within the keys
 pub record Bounds (name : Name) (keys : Bytes) (at len : ℕ) : Type 0 where
   pub tail-within : at + (length name + prefixFixed) + 12 ≤ at + len
   pub end-within : at + len ≤ length keys
-
--- the rules of keys that come after one with the bytes b from its label on
-pub restOk : Name → List ℕ → Bytes → List Bytes → Bool
-restOk name words b ks = all (keyOk name words) ks && ascendsFrom compareBytes b (map (drop (length name + prefixFixed)) ks)
 
 regroup : (a b c d : Bool) → (a && b && (c && d)) ≡ (a && (c && (b && d)))
 regroup false b c d = refl
@@ -61,18 +55,6 @@ module _ (name : Name) (words : List ℕ) where
       let split : prefix name ++ (e .label ++ suffix (e .dot)) ≡ k = sym (entry-key-parts name e) ∙ read .key in
       let rest : tail k ≡ e .label ++ suffix (e .dot) = ap tail (sym split) ∙ drop-at (prefix name) (e .label ++ suffix (e .dot)) (length name + prefixFixed) (length-prefix name) in
       record { whole = rw rest split; more = rw (rest, length-append, length-suffix) (omega (arith, label-size name e (read .valid) .0)) }
-
-  -- every key of an undamaged store begins with the prefix of the set
-  keys-begin : (ks : List Bytes) → all (keyOk name words) ks ≡ true → all (startsWith (prefix name)) ks ≡ true
-  unfolding all
-  keys-begin [] ok = refl
-  keys-begin (k ∷ ks) ok =
-      let here : startsWith (prefix name) k ≡ true = ap (startsWith (prefix name)) (sym (parts k (search both) .whole)) ∙ starts-itself (prefix name) (tail k) in
-      rw (here, keys-begin ks (search both))
-
-  pub used-begin : (bytes : Bytes) → usedOk name words bytes ≡ true → all (startsWith (prefix name)) (keysOf (length name) bytes) ≡ true
-  unfolding usedOk
-  used-begin bytes ok = keys-begin (keysOf (length name) bytes) (search both)
 
   tail-order : (k l : Bytes) → keyOk name words k ≡ true → keyOk name words l ≡ true → compareBytes k l ≡ compareBytes (tail k) (tail l)
   tail-order k l ok ok′ = ap₂ compareBytes (sym (parts k ok .whole)) (sym (parts l ok′ .whole)) ∙ compare-common (prefix name) (tail k) (tail l)
@@ -148,19 +130,14 @@ module _ (name : Name) (words : List ℕ) where
           let left : at + len - (at + (length name + prefixFixed)) ≡ size at - (length name + prefixFixed) = omega (arith, is-size) in
           rw (left, drop-take (length name + prefixFixed) (size at) (drop at keys), drop-drop (length name + prefixFixed) at keys)
 
-      -- a key whose number is below that of a label comes before all keys that begin with the prefix and the label
-      pub key-below : AreBytes keys → (label tail′ : Bytes) → AreBytes label → at < length keys → numberAt 8 keys (at + (length name + prefixFixed)) < labelNumber label
+      -- a key that comes before others from its label on comes before them
+      pub key-before : (label tail′ : Bytes) → isLt (compareBytes (take (at + len - (at + (length name + prefixFixed))) (drop (at + (length name + prefixFixed)) keys)) (label ++ tail′)) ≡ true
           → lowerThan ((prefix name ++ label) ++ tail′) (take len (drop at keys)) ≡ true
       unfolding key size
-      key-below small label tail′ small′ h lower =
-          let p = parts (key at) passes in
-          let n = length name + prefixFixed in
-          let number : numberAt 8 (tail (key at)) 0 ≡ numberAt 8 keys (at + n) = ap (λ (t : Bytes). numberAt 8 t 0) (sym tail-is) ∙ (rw add-zero at (number-part keys (at + n) (at + len - (at + n)) 8 0 (omega (arith, bounds h .tail-within)))) in
-          let below : isLt (compareBytes (tail (key at)) (label ++ tail′)) ≡ true =
-          number-below (tail (key at)) label tail′ (bytes-drop (key at) n (bytes-take (drop at keys) (size at) (bytes-drop keys at small))) small′ (omega (arith, p .more)) (rw number lower) in
+      key-before label tail′ below =
           let whole : compareBytes (key at) ((prefix name ++ label) ++ tail′) ≡ compareBytes (tail (key at)) (label ++ tail′) =
-          ap (λ (k : Bytes). compareBytes k ((prefix name ++ label) ++ tail′)) (sym (p .whole)) ∙ ap (compareBytes (prefix name ++ tail (key at))) (append-assoc (prefix name) label tail′) ∙ compare-common (prefix name) (tail (key at)) (label ++ tail′) in
-          rw is-size (ap isLt whole ∙ below)
+          ap (λ (k : Bytes). compareBytes k ((prefix name ++ label) ++ tail′)) (sym (parts (key at) passes .whole)) ∙ ap (compareBytes (prefix name ++ tail (key at))) (append-assoc (prefix name) label tail′) ∙ compare-common (prefix name) (tail (key at)) (label ++ tail′) in
+          rw is-size (ap isLt whole ∙ rw tail-is at below)
 
     module _ (label at : ℕ) (inv : usedOk name words keys ≡ restOk name words (take (at - label) (drop label keys)) (keysOf (length name) (drop at keys))) where
       pub ended : length keys ≤ at → true ≡ usedOk name words keys

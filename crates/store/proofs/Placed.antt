@@ -7,10 +7,12 @@ use Prim.Native.Nat.{ℕ, _+_, Ordering}
 use lib.ListN.{length, length-append}
 use Rattle.wire.specs.Lists.{_∈_, all, isLt, Less, Ascending, ascends}
 use Rattle.wire.specs.Bytes.{Bytes, compareBytes}
-use Rattle.wire.proofs.Tests.{untrue}
+use Rattle.wire.proofs.Tests.{both, untrue}
 use Rattle.wire.proofs.Lists.{Lawful, lt-is, irreflexive, ascends-ascending, member-all}
 use Rattle.wire.proofs.Orders.{bytesLawful}
-use Rattle.store.specs.Cut.{endToEnd}
+use Rattle.dots.specs.Names.{Name}
+use Rattle.store.specs.Cut.{endToEnd, keysOf}
+use Rattle.store.specs.Valid.{usedOk}
 use Rattle.store.specs.Place.{lengthWhile, lowerThan, placeIn, Placed}
 
 -- what comes after is not lower
@@ -46,3 +48,8 @@ module _ (key : Bytes) where
 
   pub placed : (ks : List Bytes) → ascends compareBytes ks ≡ true → Placed key ks (placeIn key ks)
   placed ks up = placed-in ks (ascends-ascending compareBytes bytesLawful ks up)
+
+-- "In an undamaged store every key before the place is lower in plain byte order, and none from it on is."
+pub place-law : (name : Name) (words : List ℕ) (used : Bytes) → usedOk name words used ≡ true → (key : Bytes) → Placed key (keysOf (length name) used) (placeIn key (keysOf (length name) used))
+unfolding usedOk
+place-law name words used ok key = placed key (keysOf (length name) used) (search both)

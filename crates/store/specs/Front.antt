@@ -31,9 +31,13 @@ pub record FirstNumbers (bytes : Bytes) (from to word half : ℕ) : Type 0 where
   pub first : word ≡ numberAt 8 (take (to - from) (drop from bytes)) 0
   pub second : half ≡ numberAt 4 (take (to - from) (drop from bytes)) 8
 
+-- the bytes from a place to another
+abbrev pub partTo : Bytes → ℕ → ℕ → Bytes
+partTo bytes from to = take (to - from) (drop from bytes)
+
 -- the bytes of a key from its label on, as the pass carries them: where they stand and their first numbers
 abbrev pub TailIn : Bytes → KeyTail → Type 0
 TailIn keys t = FirstNumbers keys (t .from) (t .end) (t .word) (t .half)
 
 abbrev pub tailOf : Bytes → KeyTail → Bytes
-tailOf keys t = take (t .end - t .from) (drop (t .from) keys)
+tailOf keys t = partTo keys (t .from) (t .end)

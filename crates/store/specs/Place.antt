@@ -1,13 +1,13 @@
 -- Where a key goes, and the stretch of a label's keys.
-use Prim.Native.Nat.{ℕ, _+_, _-_, _≤_}
+use Prim.Native.Nat.{ℕ, _+_, _≤_}
 use mathlib.Core.Bool.{Bool, true, false, not, cond}
 use mathlib.Core.List.{List, [], _∷_, _++_}
 use mathlib.Core.Path.{_≡_}
-use lib.ListN.{length, take, drop, replicate}
+use lib.ListN.{length, take, drop}
 use Rattle.wire.specs.Lists.{isLt, all}
 use denote.Ref.{RefT}
 use Rattle.wire.specs.declared.Span.{Span}
-use Rattle.wire.specs.Bytes.{Bytes, endOf, compareBytes, startsWith, putAt, insertedAt, fromBigEndian, IsPart}
+use Rattle.wire.specs.Bytes.{Bytes, endOf, compareBytes, startsWith, putAt, insertedAt, IsPart}
 use Rattle.dots.specs.Names.{Name, Label, nameOk, labelOk}
 use Rattle.dots.specs.Entries.{Entry}
 use Rattle.keys.specs.Entry.{prefix, entryKey}
@@ -24,6 +24,11 @@ lengthWhile test (k ∷ ks) = cond (test k) (length k + lengthWhile test ks) 0
 
 abbrev pub lowerThan : Bytes → Bytes → Bool
 lowerThan key k = isLt (compareBytes k key)
+
+-- what a walk goes past: keys that are lower than the one looked for or, in a run, that begin with it
+abbrev pub passing : Bool → Bytes → Bytes → Bool
+passing true key k = startsWith key k
+passing false key k = lowerThan key k
 
 -- where a key goes: after the keys at the front that are lower
 abbrev pub placeIn : Bytes → List Bytes → ℕ
@@ -53,12 +58,6 @@ pub record PlacePast (n : ℕ) (keys key : Bytes) (low : ℕ) : Type 0 where
   pub within : low ≤ length keys
   pub placed : placeIn key (keysOf n keys) ≡ low + placeIn key (keysOf n (drop low keys))
 
--- and these all begin as the key does, up to the label
-pub record PlaceAmongAlike (n : ℕ) (keys key : Bytes) (low : ℕ) : Type 0 where
-  pub long : n + 12 ≤ length key
-  pub past : PlacePast n keys key low
-  pub alike : all (startsWith (take (n + prefixFixed) key)) (keysOf n (drop low keys)) ≡ true
-
 -- a judgement: whether it is no damage, and how many bytes at the front it tells of
 abbrev pub isSound : Judgement → Bool
 isSound Damaged = false
@@ -79,13 +78,6 @@ KeysJudged name words keys label r = Judged (usedOk name words keys) (length nam
 
 abbrev pub StoreJudged : Name → List ℕ → Bytes → ℕ → Label → Judgement → Type 0
 StoreJudged name words store used label r = Judged (storeOk name words store used) (length name) (prefix name ++ label) (take used store) r
-
--- the first 8 bytes of a label, with 0s after a shorter one, and the number in them
-abbrev pub firstEight : Label → Bytes
-firstEight label = take 8 label ++ replicate (8 - length label) 0
-
-unfoldable pub labelNumber : Label → ℕ
-labelNumber label = fromBigEndian (firstEight label)
 
 -- what the keys of a label begin with: the set's prefix, the label and its closing 00
 unfoldable pub labelStart : Name → Label → Bytes
@@ -134,11 +126,10 @@ insertedKey n store used key = insertedAt store used (placeIn key (keysOf n (tak
 abbrev pub insertedEntry : Name → Bytes → ℕ → Entry → Bytes
 insertedEntry name store used e = insertedKey (length name) store used (entryKey name e)
 
--- an entry of a label can be inserted: the used keys are the set's, there is room, and the first `low` bytes come before all keys of the label
+-- an entry of a label can be inserted: there is room, and the first `low` bytes come before all keys of the label
 abbrev pub EntryHasPlace : Name → Label → Bytes → ℕ → ℕ → Type 0
 EntryHasPlace name label store used low =
-    (nameOk name ≡ true) × (labelOk label ≡ true) × (all (startsWith (prefix name)) (keysOf (length name) (take used store)) ≡ true)
-    × (used + keySize name label ≤ length store) × LabelPassed name label (take used store) low
+    (nameOk name ≡ true) × (labelOk label ≡ true) × (used + keySize name label ≤ length store) × LabelPassed name label (take used store) low
 
 -- the entry is inserted in a store, which becomes store′; r is the new used length
 abbrev pub EntryInserted : Name → Entry → ℕ → Bytes → Bytes → ℕ → Type 0

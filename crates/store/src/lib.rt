@@ -5,15 +5,18 @@ ghost use Prim.Native.Nat.{_+_, _-_, _≤_, _<_};
 ghost use lib.ListN.{length, take};
 ghost use Rattle.wire.specs.Loans.{before, after};
 ghost use Rattle.wire.specs.Lists.{isLt};
-ghost use Rattle.wire.specs.Bytes.{compareBytes, numberAt, startsWith, putAt};
+ghost use Rattle.wire.specs.Bytes.{compareBytes, zeroAt, startsWith, putAt};
 ghost use Rattle.dots.specs.Names.{nameOk, labelOk, nameMost};
 ghost use Rattle.dots.specs.Entries.{entry};
 ghost use Rattle.keys.specs.Entry.{prefix};
 ghost use Rattle.store.specs.Cut.{keyLength, keysOf, keyDot};
-ghost use Rattle.store.specs.Place.{lengthWhile, placeIn, labelNumber, LabelPassed, PlacePast, PlaceAmongAlike};
+ghost use Rattle.store.specs.declared.Judgement.the-variants.{Damaged, Sound};
+ghost use Rattle.store.specs.Valid.{usedOk, storeMost};
+ghost use Rattle.store.specs.Place.{lengthWhile, passing, placeIn, LabelPassed, PlacePast};
 ghost use Rattle.store.specs.Place.{isSound, frontOf, KeysJudged, StoreJudged, IsSpanFrom, IsSpan, IsStretch};
 ghost use Rattle.store.specs.Place.{LabelStartPut, KeyPut, insertedKey, EntryHasPlace, EntryInserted};
-ghost use Rattle.store.specs.Front.{afterLength, frontLength, TailIn, tailOf};
+ghost use Rattle.store.specs.Front.{afterLength, frontLength, partTo, TailIn, tailOf};
+ghost use Rattle.store.specs.Pass.{prefixMost, keyMost, tailMost, nameIn, IsStart, IsPrefix, MarkTells, LabelIs, dotSeen, AfterIs, Passing, NextIs, CanRead, LowAfter};
 ghost use Rattle.keys.specs.Key.{labelKeyFixed, prefixFixed, suffixSize};
 
 // Bytes of a store, at most; of what a set's keys begin with, of what a label's keys begin with, of a key.
@@ -34,12 +37,40 @@ pub enum Judgement {
     Sound(usize),
 }
 
-// The bytes of a key from its label on: where they begin and end among the keys, and the numbers in the first 8 of them and in the next 4.
+// The bytes of a key from its label on: where they begin and end among the keys, how long the label is, the mark of its closing 00 in the
+// label's first 8 bytes (0 where it is not kept), and the numbers in the first 8 bytes and in the next 4.
 struct KeyTail {
     from: usize,
     end: usize,
+    len: usize,
+    mark: u64,
     word: u64,
     half: u64,
+}
+
+// What the next key of a pass gives: damage, or its bytes from the label on.
+enum KeyRead {
+    Damaged,
+    Sound(KeyTail),
+}
+
+// How long a label is, and the mark of its closing 00 as above.
+struct LabelEnd {
+    len: usize,
+    mark: u64,
+}
+
+// What the label at the front of bytes gives: it breaks its rule, or it ends.
+enum LabelRead {
+    Bad,
+    Ends(LabelEnd),
+}
+
+// What a set's keys begin with, for comparing up to 8 bytes at once: how long it is, which bits of a word count, and what they are.
+struct Prefix {
+    len: usize,
+    mask: u64,
+    pattern: u64,
 }
 
 // Whether a judgement is damage.
@@ -78,15 +109,13 @@ fn put_prefix(out: &mut [u8], name: &[u8]) -> usize
 
 // How many of n bytes are the first 8: all of them if there are fewer.
 fn first_eight(n: usize) -> usize
-    ensures { λ r. ⌜ r ≡ 8 - (8 - n) ⌝ }
+    ensures { λ r. ⌜ (r ≤ n) × (r ≤ 8) ⌝ }
 {
     if n < 8 { n } else { 8 }
 }
 
-// The number in the first 8 bytes of a label, with 0s after a shorter one.
-fn label_number(label: &[u8]) -> u64
-    ensures { λ r. ⌜ r ≡ labelNumber (before label) ⌝ }
-{
+// The number in the first 8 bytes of a label, with 0s after a shorter one. It only spares comparisons, so nothing is promised of it.
+fn label_number(label: &[u8]) -> u64 {
     let mut bytes = [0u8; 8];
     let k = first_eight(label.len());
     moves::put(&mut bytes, 0, &label[..k]);
@@ -123,14 +152,14 @@ fn after_length(words: &clock::Words, t: &[u8]) -> usize
 }
 
 // How long the key at the front is, if it is a label key of the set whose dot is seen; else 0. `start` is what the set's keys begin with.
-fn front_length(name: &[u8], start: &[u8], words: &clock::Words, s: &[u8]) -> usize
-    requires { ⌜ (nameOk (now name) ≡ true) × (now start ≡ prefix (now name)) ⌝ }
-    ensures { λ r. ⌜ r ≡ frontLength (before name) (before words) (before s) ⌝ }
+fn front_length(start: &[u8], words: &clock::Words, s: &[u8]) -> usize
+    requires { ⌜ IsStart (now start) ⌝ }
+    ensures { λ r. ⌜ r ≡ frontLength (nameIn (before start)) (before words) (before s) ⌝ }
 {
     if !search::starts_with(start, s) {
         return 0;
     }
-    let at = name.len() + keys::PREFIX_FIXED;
+    let at = start.len();
     let len = after_length(words, &s[at..]);
     if len == 0 {
         return 0;
@@ -145,6 +174,16 @@ fn pick(first: bool, a: u64, b: u64) -> u64
     if first { a } else { b }
 }
 
+// Whether the bytes from a place to another, without the first 8, come before others.
+fn lower_later(keys: &[u8], label: usize, at: usize, from: usize, end: usize) -> bool
+    requires { ⌜ (label + 8 ≤ at) × (at ≤ length (now keys)) × (from + 8 ≤ end) × (end ≤ length (now keys)) ⌝ }
+    ensures { λ r. ⌜ r ≡ isLt (compareBytes (partTo (before keys) (label + 8) at) (partTo (before keys) (from + 8) end)) ⌝ }
+{
+    let after = label + 8;
+    let next = from + 8;
+    search::lower(&keys[after..at], &keys[next..end])
+}
+
 // Whether a tail comes before another. The numbers in the first 8 bytes and in the next 4 of both decide unless they are equal.
 fn ascends(keys: &[u8], last: KeyTail, next: KeyTail) -> bool
     requires { ⌜ TailIn (now keys) last × (TailIn (now keys) next × (next .from < next .end)) ⌝ }
@@ -156,61 +195,270 @@ fn ascends(keys: &[u8], last: KeyTail, next: KeyTail) -> bool
     if low != high {
         return low < high;
     }
-    let label = last.from;
-    let at = last.end;
-    let from = next.from;
-    let end = next.end;
-    search::lower(&keys[label..at], &keys[from..end])
+    if last.from == last.end {
+        return true;
+    }
+    lower_later(keys, last.from, last.end, next.from, next.end)
 }
 
-// One of two places.
-fn pick_place(first: bool, a: usize, b: usize) -> usize
-    ensures { λ r. ⌜ r ≡ cond first a b ⌝ }
+// ---- a key with room for the longest after it
+
+// The label at the front of t. A label that ends in its first 8 bytes is mostly as long as the last key's: its mark is compared, and no length waits for it.
+fn label_end(t: &[u8], last: KeyTail) -> LabelRead
+    requires { ⌜ (tailMost ≤ length (now t)) × MarkTells (last .mark) (last .len) ⌝ }
+    ensures { λ r. ⌜ LabelIs (zeroAt (before t)) r ⌝ }
 {
-    if first { a } else { b }
+    let marks = search::zero_marks(wire::low_at(t, 0));
+    if marks == 0 {
+        let len = search::zero_near(t, 0);
+        if dots::LABEL_MOST < len {
+            return LabelRead::Bad;
+        }
+        return LabelRead::Ends(LabelEnd { len, mark: 0 });
+    }
+    let mark = search::lowest_mark(marks);
+    if mark != last.mark {
+        let len = search::mark_place(marks);
+        if len == 0 {
+            return LabelRead::Bad;
+        }
+        return LabelRead::Ends(LabelEnd { len, mark });
+    }
+    LabelRead::Ends(LabelEnd {
+        len: last.len,
+        mark,
+    })
 }
 
-// Whether bytes are label keys of the set end to end, ascending, each dot seen, and how many bytes come before all keys of a label.
-// The keys begin alike, so that their order is that of what follows `start`.
-fn judge_keys(
-    name: &[u8],
+// Whether actor, 00 and counter from a place on are a dot that the clock sees. Actor and 00 are one number, from 1 to 16.
+fn dot_seen(words: &clock::Words, t: &[u8], at: usize) -> bool
+    requires { ⌜ at + (suffixSize - 1) ≤ length (now t) ⌝ }
+    ensures { λ r. ⌜ r ≡ dotSeen (before words) (before t) at ⌝ }
+{
+    let row = std::num::wrapping_sub_u64(wire::low_pair_at(t, at), 1);
+    if dots::ACTOR_MOST as u64 <= row {
+        return false;
+    }
+    clock::sees_event(words, row, wire::number_at(t, at + 2))
+}
+
+// The label at the front of what follows a prefix, where 00, actor, 00 and counter after it keep their rules and the dot is seen.
+fn seen_label(words: &clock::Words, t: &[u8], last: KeyTail) -> LabelRead
+    requires { ⌜ (tailMost ≤ length (now t)) × MarkTells (last .mark) (last .len) ⌝ }
+    ensures { λ r. ⌜ AfterIs (afterLength (before words) (before t)) r ⌝ }
+{
+    let read = label_end(t, last);
+    let LabelRead::Ends(label) = read else {
+        return LabelRead::Bad;
+    };
+    if dot_seen(words, t, label.len + 1) {
+        return LabelRead::Ends(label);
+    }
+    LabelRead::Bad
+}
+
+// Whether bytes with room for the longest key begin with a set's prefix.
+fn begins(start: &[u8], prefix: Prefix, s: &[u8]) -> bool
+    requires { ⌜ IsPrefix (now start) prefix × (tailMost ≤ length (now s)) ⌝ }
+    ensures { λ r. ⌜ r ≡ startsWith (before start) (before s) ⌝ }
+{
+    if prefix.len <= 8 {
+        return wire::low_at(s, 0) & prefix.mask == prefix.pattern;
+    }
+    search::starts_with(start, s)
+}
+
+// What a set's keys begin with, for comparing.
+fn prefix_of(start: &[u8]) -> Prefix
+    requires { ⌜ length (now start) ≤ prefixMost ⌝ }
+    ensures { λ r. ⌜ IsPrefix (before start) r ⌝ }
+{
+    let len = start.len();
+    let mut bytes = [0u8; PREFIX_MOST];
+    moves::put(&mut bytes, 0, start);
+    let pattern = wire::low_at(&bytes, 0);
+    if len < 8 {
+        return Prefix {
+            len,
+            mask: (1u64 << (8 * len)) - 1,
+            pattern,
+        };
+    }
+    Prefix {
+        len,
+        mask: u64::MAX,
+        pattern,
+    }
+}
+
+// The next key of a pass, with room for the longest key.
+fn roomy_key(
+    start: &[u8],
+    prefix: Prefix,
+    words: &clock::Words,
+    keys: &[u8],
+    last: KeyTail,
+) -> KeyRead
+    requires { ⌜ CanRead (now start) prefix (now words) (now keys) last × (last .end + keyMost ≤ length (now keys)) ⌝ }
+    ensures { λ r. ⌜ NextIs (nameIn (before start)) (before words) (before keys) (last .end + 1) r ⌝ }
+{
+    let len = prefix.len;
+    let at = last.end;
+    let tails = &keys[len..];
+    let tail = &tails[at..];
+    let read = seen_label(words, tail, last);
+    let LabelRead::Ends(label) = read else {
+        return KeyRead::Damaged;
+    };
+    if !begins(start, prefix, &keys[at..]) {
+        return KeyRead::Damaged;
+    }
+    let from = at + len;
+    let end = (at + (len + keys::SUFFIX_SIZE)) + label.len;
+    let next = KeyTail {
+        from,
+        end,
+        len: label.len,
+        mark: label.mark,
+        word: wire::number_at(tail, 0),
+        half: wire::half_at(tail, 8),
+    };
+    if !ascends(keys, last, next) {
+        return KeyRead::Damaged;
+    }
+    KeyRead::Sound(next)
+}
+
+// The keys of a pass up to one that ends at `stop` or past it, each with room for the longest key.
+fn judge_run(
+    start: &[u8],
+    prefix: Prefix,
+    words: &clock::Words,
+    keys: &[u8],
+    first: KeyTail,
+    stop: usize,
+) -> KeyRead
+    requires { ⌜ CanRead (now start) prefix (now words) (now keys) first × (stop + keyMost ≤ length (now keys) + 1) ⌝ }
+    ensures { λ r. ⌜ NextIs (nameIn (before start)) (before words) (before keys) stop r ⌝ }
+{
+    let mut last = first;
+    while last.end < stop {
+        let read = roomy_key(start, prefix, words, keys, last);
+        let KeyRead::Sound(next) = read else {
+            return KeyRead::Damaged;
+        };
+        last = next;
+    }
+    KeyRead::Sound(last)
+}
+
+// ---- any key
+
+// The next key of a pass, wherever it stands.
+fn any_key(start: &[u8], words: &clock::Words, keys: &[u8], last: KeyTail) -> KeyRead
+    requires { ⌜ IsStart (now start) × Passing (nameIn (now start)) (now words) (now keys) last × (last .end < length (now keys)) ⌝ }
+    ensures { λ r. ⌜ NextIs (nameIn (before start)) (before words) (before keys) (last .end + 1) r ⌝ }
+{
+    let at = last.end;
+    let size = front_length(start, words, &keys[at..]);
+    if size == 0 {
+        return KeyRead::Damaged;
+    }
+    let from = at + start.len();
+    let end = at + size;
+    let next = KeyTail {
+        from,
+        end,
+        len: 0,
+        mark: 0,
+        word: wire::number_at(keys, from),
+        half: wire::half_at(keys, from + 8),
+    };
+    if !ascends(keys, last, next) {
+        return KeyRead::Damaged;
+    }
+    KeyRead::Sound(next)
+}
+
+// The keys of a pass from the last one read to the end. If they are sound, so are all, and `low` is told.
+fn judge_rest(
     start: &[u8],
     words: &clock::Words,
     keys: &[u8],
-    label: &[u8],
+    first: KeyTail,
+    low: usize,
 ) -> Judgement
-    requires { ⌜ (nameOk (now name) ≡ true) × (now start ≡ prefix (now name)) ⌝ }
-    ensures { λ r. ⌜ KeysJudged (before name) (before words) (before keys) (before label) r ⌝ }
+    requires { ⌜ IsStart (now start) × Passing (nameIn (now start)) (now words) (now keys) first ⌝ }
+    ensures { λ r. ⌜ r ≡ cond (usedOk (nameIn (before start)) (before words) (before keys)) (Sound low) Damaged ⌝ }
 {
+    let mut last = first;
+    while last.end < keys.len() {
+        let read = any_key(start, words, keys, last);
+        let KeyRead::Sound(next) = read else {
+            return Judgement::Damaged;
+        };
+        last = next;
+    }
+    Judgement::Sound(low)
+}
+
+// ---- the pass
+
+// Where a run of keys stops that begins at a place: a part of the keys further on, at least 128 bytes, or where there is no more room for the longest key.
+fn run_end(at: usize, size: usize) -> usize
+    requires { ⌜ (at + keyMost ≤ size) × (size ≤ storeMost) ⌝ }
+    ensures { λ r. ⌜ (at < r) × (r + keyMost ≤ size + 1) ⌝ }
+{
+    let stop = at + (size / 32 + 128);
+    let last = size - (KEY_MOST - 1);
+    if stop < last { stop } else { last }
+}
+
+// How many bytes come before all keys of a label, as far as is known: those up to the end of the last key, if all up to where its run began do and it does.
+// `wanted` is the label's number: where that of the last key is above, the key is.
+fn low_after(keys: &[u8], label: &[u8], wanted: u64, last: KeyTail, low: usize, at: usize) -> usize
+    requires { ⌜ TailIn (now keys) last ⌝ }
+    ensures { λ r. ⌜ LowAfter (before keys) (before label) last low r ⌝ }
+{
+    if (low != at) | (wanted < last.word) {
+        return low;
+    }
+    let from = last.from;
+    let end = last.end;
+    if search::lower(&keys[from..end], label) {
+        return end;
+    }
+    low
+}
+
+// Whether bytes are label keys of the set end to end, ascending, each dot seen, and how many bytes come before all keys of a label.
+// The keys begin alike, so that their order is that of what follows `start`. After each run the last key is compared with the label.
+fn judge_keys(start: &[u8], words: &clock::Words, keys: &[u8], label: &[u8]) -> Judgement
+    requires { ⌜ IsStart (now start) × (length (now keys) ≤ storeMost) ⌝ }
+    ensures { λ r. ⌜ KeysJudged (nameIn (before start)) (before words) (before keys) (before label) r ⌝ }
+{
+    let prefix = prefix_of(start);
     let wanted = label_number(label);
     let mut last = KeyTail {
         from: 0,
         end: 0,
+        len: 0,
+        mark: 0,
         word: 0,
         half: 0,
     };
     let mut low = 0;
-    while last.end < keys.len() {
+    while last.end + KEY_MOST <= keys.len() {
         let at = last.end;
-        let len = front_length(name, start, words, &keys[at..]);
-        if len == 0 {
+        let stop = run_end(at, keys.len());
+        let read = judge_run(start, prefix, words, keys, last, stop);
+        let KeyRead::Sound(next) = read else {
             return Judgement::Damaged;
-        }
-        let from = at + (name.len() + keys::PREFIX_FIXED);
-        let end = at + len;
-        let next = KeyTail {
-            from,
-            end,
-            word: wire::number_at(keys, from),
-            half: wire::half_at(keys, from + 8),
         };
-        if !ascends(keys, last, next) {
-            return Judgement::Damaged;
-        }
-        low = pick_place(next.word < wanted, end, low);
+        low = low_after(keys, label, wanted, next, low, at);
         last = next;
     }
-    Judgement::Sound(low)
+    judge_rest(start, words, keys, last, low)
 }
 
 // Whether the store is undamaged: its length and used length, and one pass over the keys, which tells how many bytes come before all keys of a label.
@@ -237,7 +485,7 @@ pub fn judge(
     let mut start = [0; PREFIX_MOST];
     let n = put_prefix(&mut start, name);
     let here = *words;
-    judge_keys(name, &start[..n], &here, &store[..used], label)
+    judge_keys(&start[..n], &here, &store[..used], label)
 }
 
 // How long the key at the front of s is, by its label's closing 00; at most all of s.
@@ -256,53 +504,38 @@ pub fn key_length(n: usize, s: &[u8]) -> usize
     len
 }
 
-// Where a key goes in keys end to end, the first `low` bytes of which come before it: raw bytes are compared, and nothing is decoded.
-fn place(n: usize, keys: &[u8], key: &[u8], low: usize) -> usize
-    requires { ⌜ (n ≤ nameMost) × PlacePast n (now keys) (now key) low ⌝ }
-    ensures { λ r. ⌜ (r ≡ placeIn (before key) (keysOf n (before keys))) × (r ≤ length (before keys)) ⌝ }
+// Whether a walk goes past a stored key: it is lower than the key looked for or, in a run, begins with it. Raw bytes are compared, and nothing is decoded.
+fn passes(stored: &[u8], key: &[u8], run: bool) -> bool
+    ensures { λ r. ⌜ r ≡ passing run (before key) (before stored) ⌝ }
 {
-    let mut at = low;
-    while at < keys.len() {
-        let end = at + key_length(n, &keys[at..]);
-        if !search::lower(&keys[at..end], key) {
-            return at;
-        }
-        at = end;
-    }
-    at
-}
-
-// Whether a stored key comes before a key that begins with the same bytes up to `from`; wanted is the number in the key's next 8 bytes.
-fn comes_before(stored: &[u8], key: &[u8], from: usize, wanted: u64) -> bool
-    requires { ⌜ (take from (now stored) ≡ take from (now key)) × (from + 8 ≤ length (now key)) × (wanted ≡ numberAt 8 (now key) from) ⌝ }
-    ensures { λ r. ⌜ r ≡ isLt (compareBytes (before stored) (before key)) ⌝ }
-{
-    if stored.len() < from + 8 {
-        return search::lower(stored, key);
-    }
-    let word = wire::number_at(stored, from);
-    if word != wanted {
-        return word < wanted;
+    if run {
+        return search::starts_with(key, stored);
     }
     search::lower(stored, key)
 }
 
-// Where a key goes in keys end to end, the first `low` bytes of which come before it, and the others of which all begin as it does up to the label: they are compared from there on.
-fn place_after(n: usize, keys: &[u8], key: &[u8], low: usize) -> usize
-    requires { ⌜ (n ≤ nameMost) × PlaceAmongAlike n (now keys) (now key) low ⌝ }
-    ensures { λ r. ⌜ (r ≡ placeIn (before key) (keysOf n (before keys))) × (r ≤ length (before keys)) ⌝ }
+// How many bytes the keys at the front take that a walk goes past.
+fn walk_past(n: usize, keys: &[u8], key: &[u8], run: bool) -> usize
+    requires { ⌜ n ≤ nameMost ⌝ }
+    ensures { λ r. ⌜ (r ≡ lengthWhile (passing run (before key)) (keysOf n (before keys))) × (r ≤ length (before keys)) ⌝ }
 {
-    let from = n + keys::PREFIX_FIXED;
-    let wanted = wire::number_at(key, from);
-    let mut at = low;
+    let mut at = 0;
     while at < keys.len() {
         let end = at + key_length(n, &keys[at..]);
-        if !comes_before(&keys[at..end], key, from, wanted) {
+        if !passes(&keys[at..end], key, run) {
             return at;
         }
         at = end;
     }
     at
+}
+
+// Where a key goes in keys end to end, the first `low` bytes of which come before it.
+fn place(n: usize, keys: &[u8], key: &[u8], low: usize) -> usize
+    requires { ⌜ (n ≤ nameMost) × PlacePast n (now keys) (now key) low ⌝ }
+    ensures { λ r. ⌜ (r ≡ placeIn (before key) (keysOf n (before keys))) × (r ≤ length (before keys)) ⌝ }
+{
+    low + walk_past(n, &keys[low..], key, false)
 }
 
 // Puts what the keys of a label begin with at the front of out. Returns its length.
@@ -330,10 +563,10 @@ fn put_key(out: &mut [u8], name: &[u8], label: &[u8], dot: dots::Dot) -> usize
 
 // Puts a key in its place among the first `used` bytes, of which the first `low` come before it; those from there on move up.
 fn insert_key(store: &mut [u8], used: usize, n: usize, key: &[u8], low: usize)
-    requires { ⌜ (n ≤ nameMost) × (used + length (now key) ≤ length (now store)) × PlaceAmongAlike n (take used (now store)) (now key) low ⌝ }
+    requires { ⌜ (n ≤ nameMost) × (used + length (now key) ≤ length (now store)) × PlacePast n (take used (now store)) (now key) low ⌝ }
     ensures { λ _. ⌜ after store ≡ insertedKey n (before store) used (before key) ⌝ }
 {
-    let at = place_after(n, &store[..used], key, low);
+    let at = place(n, &store[..used], key, low);
     moves::insert_piece(store, used, at, key);
 }
 
@@ -355,29 +588,13 @@ pub fn insert_entry(
     used + len
 }
 
-// How many bytes the keys at the front take that begin with `start`.
-fn run(n: usize, keys: &[u8], start: &[u8]) -> usize
-    requires { ⌜ n ≤ nameMost ⌝ }
-    ensures { λ r. ⌜ (r ≡ lengthWhile (startsWith (before start)) (keysOf n (before keys))) × (r ≤ length (before keys)) ⌝ }
-{
-    let mut at = 0;
-    while at < keys.len() {
-        let end = at + key_length(n, &keys[at..]);
-        if !search::starts_with(start, &keys[at..end]) {
-            return at;
-        }
-        at = end;
-    }
-    at
-}
-
 // Where the keys are that begin with `start`, from its place on.
 fn span_from(n: usize, keys: &[u8], start: &[u8], low: usize) -> wire::Span
     requires { ⌜ (n ≤ nameMost) × PlacePast n (now keys) (now start) low ⌝ }
     ensures { λ r. ⌜ IsSpanFrom n (before keys) (before start) r ⌝ }
 {
     let at = place(n, keys, start, low);
-    let len = run(n, &keys[at..], start);
+    let len = walk_past(n, &keys[at..], start, true);
     wire::Span { at: at, len: len }
 }
 

@@ -1,7 +1,7 @@
 // Bytes: the definitions of their order, of numbers in them and of pieces moved inside a buffer; code that reads bytes and numbers.
 ghost use mathlib.Core.Path.{_≡_};
-ghost use Prim.Native.Nat.{_+_, _^_, _≤_, _<_};
-ghost use lib.ListN.{length};
+ghost use Prim.Native.Nat.{_+_, _*_, _^_, _≤_, _<_};
+ghost use lib.ListN.{length, getD};
 ghost use Rattle.wire.specs.Loans.{before};
 ghost use Rattle.wire.specs.Bytes.{byteAt, partAt, numberAt, bigEndian, fromBigEndian, lowNumberAt, littleEndian};
 
@@ -60,6 +60,14 @@ fn wide(b: u8) -> u64
 }
 
 // ---- words: numbers whose lowest byte comes first
+
+// The word in the 2 bytes from a place on.
+pub fn low_pair_at(s: &[u8], at: usize) -> u64
+    requires { ⌜ at + 2 ≤ length (now s) ⌝ }
+    ensures { λ r. ⌜ r ≡ getD (before s) (at + 1) 0 * 256 + getD (before s) at 0 ⌝ }
+{
+    wide(s[at + 1]) * 256 + wide(s[at])
+}
 
 // The word in the 4 bytes from a place on.
 pub fn low_half_at(s: &[u8], at: usize) -> u64

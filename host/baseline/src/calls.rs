@@ -5,6 +5,7 @@ use crate::block::{self, Block};
 use crate::check::Sound;
 use crate::dot::{actor_keeps_rule, dots, is_context, Dot};
 use crate::effect::Effect;
+use crate::form::{Dead, Form};
 use crate::keys::{label_keeps_rule, name_keeps_rule};
 use crate::message::Message;
 use crate::store;
@@ -46,24 +47,24 @@ pub fn set_up(actor: u8, name: &[u8], block: &mut Block) -> u8 {
 }
 
 /// Own add: answers 1, 5, 6, 8, 9, 10, 11, 12, 13.
-pub fn own_add(
+pub fn own_add<F: Form>(
     block: &mut Block,
     store: &mut [u8],
     label: &[u8],
     context: &[u8],
     out: &mut [u8],
 ) -> Wrote {
-    Wrote::of(try_own_add(block, store, label, context, out))
+    Wrote::of(try_own_add::<F>(block, store, label, context, out))
 }
 
-fn try_own_add(
+fn try_own_add<F: Form>(
     block: &mut Block,
     store: &mut [u8],
     label: &[u8],
     context: &[u8],
     out: &mut [u8],
 ) -> Result<usize, u8> {
-    let sound = Sound::read(block, store)?;
+    let sound = Sound::<F>::read(block, store, label)?;
     if !label_keeps_rule(label) {
         return Err(BAD_NAME);
     }
@@ -84,7 +85,7 @@ fn try_own_add(
 }
 
 /// The dot that the next own add takes, if there is a counter left.
-fn own_dot(sound: &Sound) -> Option<Dot> {
+fn own_dot<F: Form>(sound: &Sound<F>) -> Option<Dot> {
     let counter = sound.own_base().checked_add(1)?;
     let actor = sound.actor;
     Some(Dot { actor, counter })
@@ -98,17 +99,22 @@ fn write_message(message: Message, out: &mut [u8]) -> Result<usize, u8> {
 }
 
 /// Own remove: answers 1, 6, 8, 10, 11, 13.
-pub fn own_remove(block: &mut Block, store: &[u8], context: &[u8], out: &mut [u8]) -> Wrote {
-    Wrote::of(try_own_remove(block, store, context, out))
+pub fn own_remove<F: Form>(
+    block: &mut Block,
+    store: &[u8],
+    context: &[u8],
+    out: &mut [u8],
+) -> Wrote {
+    Wrote::of(try_own_remove::<F>(block, store, context, out))
 }
 
-fn try_own_remove(
+fn try_own_remove<F: Form>(
     block: &mut Block,
     store: &[u8],
     context: &[u8],
     out: &mut [u8],
 ) -> Result<usize, u8> {
-    let sound = Sound::read(block, store)?;
+    let sound = Sound::<F>::read(block, store, &[])?;
     if !is_context(context) {
         return Err(BAD_DOT);
     }
@@ -124,16 +130,17 @@ fn try_own_remove(
 }
 
 /// Taking in a message: answers 1 to 8, 10, 11, 12.
-pub fn take_in(block: &mut Block, store: &mut [u8], message: &[u8]) -> u8 {
-    match try_take_in(block, store, message) {
+pub fn take_in<F: Form>(block: &mut Block, store: &mut [u8], message: &[u8]) -> u8 {
+    match try_take_in::<F>(block, store, message) {
         Ok(()) => DONE,
         Err(answer) => answer,
     }
 }
 
-fn try_take_in(block: &mut Block, store: &mut [u8], message: &[u8]) -> Result<(), u8> {
-    let sound = Sound::read(block, store)?;
-    let Message { name, add, context } = Message::read(message)?;
+fn try_take_in<F: Form>(block: &mut Block, store: &mut [u8], message: &[u8]) -> Result<(), u8> {
+    let message = Message::read(message);
+    let sound = Sound::<F>::read(block, store, added_label(&message))?;
+    let Message { name, add, context } = message?;
     if name != sound.prefix.name() {
         return Err(OTHER_SET);
     }
@@ -147,9 +154,17 @@ fn try_take_in(block: &mut Block, store: &mut [u8], message: &[u8]) -> Result<()
     Ok(())
 }
 
+/// The label that a message adds, if it is an add.
+fn added_label<'a>(message: &Result<Message<'a>, u8>) -> &'a [u8] {
+    match message {
+        Ok(Message { add, .. }) => add.map_or(&[], |(label, _)| label),
+        Err(_) => &[],
+    }
+}
+
 /// Compaction: answers 1.
-pub fn compact(block: &mut Block, store: &mut [u8]) -> u8 {
-    let sound = match Sound::read(block, store) {
+pub fn compact<F: Form>(block: &mut Block, store: &mut [u8]) -> u8 {
+    let sound = match Sound::<F>::read(block, store, &[]) {
         Ok(sound) => sound,
         Err(answer) => return answer,
     };
@@ -157,7 +172,8 @@ pub fn compact(block: &mut Block, store: &mut [u8]) -> u8 {
     if dead.is_empty() {
         return DONE;
     }
-    let (used, dropped) = store::drop_dead(store, sound.used, sound.prefix.len(), dead);
+    let (used, dropped) =
+        store::drop_dead::<F>(store, sound.used, sound.prefix.len(), F::Dead::of(dead));
     let count = tombstone::remove(block, sound.count, &dropped);
     block::set_count(block, count);
     block::set_used(block, used);

@@ -4,12 +4,13 @@ use crate::answer::DAMAGED;
 use crate::block::{self, Block};
 use crate::clock::Clock;
 use crate::dot::{actor_keeps_rule, Dot};
+use crate::form::Form;
 use crate::keys::{name_keeps_rule, Prefix};
-use crate::{store, tombstone};
+use crate::tombstone;
 use limits::{NAME_MAX, STORE_MAX};
 
 /// What an undamaged state says.
-pub struct Sound {
+pub struct Sound<F: Form> {
     pub actor: u8,
     pub prefix: Prefix,
     pub clock: Clock,
@@ -17,12 +18,16 @@ pub struct Sound {
     pub count: usize,
     /// Used bytes of the store.
     pub used: usize,
+    /// What is known of the place of a label's keys.
+    pub found: F::Found,
 }
 
-impl Sound {
-    /// Reads and judges block and store: answer 1 if they are damaged.
-    pub fn read(block: &Block, lent: &[u8]) -> Result<Sound, u8> {
-        judged(block, lent).ok_or(DAMAGED)
+impl<F: Form> Sound<F> {
+    /// Reads and judges block and store: answer 1 if they are damaged. The keys of this label are
+    /// what the call will look for.
+    #[inline(never)] // Long, and each call has it.
+    pub fn read(block: &Block, lent: &[u8], label: &[u8]) -> Result<Sound<F>, u8> {
+        judged(block, lent, label).ok_or(DAMAGED)
     }
 
     pub fn own_base(&self) -> u64 {
@@ -35,7 +40,8 @@ impl Sound {
     }
 }
 
-fn judged(block: &Block, lent: &[u8]) -> Option<Sound> {
+#[inline(always)]
+fn judged<F: Form>(block: &Block, lent: &[u8], label: &[u8]) -> Option<Sound<F>> {
     let actor = block::actor(block);
     if lent.len() > STORE_MAX || !actor_keeps_rule(actor) {
         return None;
@@ -47,12 +53,14 @@ fn judged(block: &Block, lent: &[u8]) -> Option<Sound> {
     }
     let count = tombstone::check(block, &clock)?;
     let keys = lent.get(..usize::try_from(block::used(block)).ok()?)?;
-    store::is_sound(keys, prefix.bytes(), &clock).then_some(Sound {
+    let found = F::judge(keys, &prefix, &clock, label)?;
+    Some(Sound {
         actor,
         prefix,
         clock,
         count,
         used: keys.len(),
+        found,
     })
 }
 

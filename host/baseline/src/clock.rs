@@ -72,6 +72,7 @@ impl Clock {
     }
 
     /// Adds dots that come in ascending order. False if one is out of reach, then and there.
+    #[inline(always)]
     pub fn join(&mut self, mut dots: impl Iterator<Item = Dot>) -> bool {
         dots.all(|dot| self.rows[usize::from(dot.actor) - 1].join(dot.counter))
     }

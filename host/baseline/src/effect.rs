@@ -6,6 +6,7 @@ use crate::block::{self, Block};
 use crate::check::Sound;
 use crate::clock::Clock;
 use crate::dot::{dots, Dot};
+use crate::form::Form;
 use crate::store;
 use crate::tombstone::{self, Tombstone};
 use limits::{KEY_END, KEY_MAX, TOMBSTONE_DOTS_MAX};
@@ -22,8 +23,8 @@ pub struct Effect<'a> {
 
 impl<'a> Effect<'a> {
     /// Works the effect out: answers 10, 11, 12.
-    pub fn new(
-        sound: &Sound,
+    pub fn new<F: Form>(
+        sound: &Sound<F>,
         block: &Block,
         room: usize,
         context: &'a [u8],
@@ -52,7 +53,7 @@ impl<'a> Effect<'a> {
     }
 
     /// Changes the block.
-    pub fn change_state(&self, sound: &Sound, block: &mut Block) {
+    pub fn change_state<F: Form>(&self, sound: &Sound<F>, block: &mut Block) {
         let mut count = sound.count;
         for dot in dots(self.context) {
             if sound.clock.sees(dot) {
@@ -73,7 +74,7 @@ impl<'a> Effect<'a> {
     }
 
     /// Puts the key of a new add in the store.
-    pub fn change_store(&self, sound: &Sound, block: &mut Block, lent: &mut [u8]) {
+    pub fn change_store<F: Form>(&self, sound: &Sound<F>, block: &mut Block, lent: &mut [u8]) {
         let (true, Some((label, dot))) = (self.is_new, self.add) else {
             return;
         };
@@ -81,7 +82,7 @@ impl<'a> Effect<'a> {
         let length = sound.prefix.write_key(label, dot, &mut key);
         let key = &key[..length];
         let prefix = sound.prefix.len();
-        let at = store::place(&lent[..sound.used], prefix, &key[prefix..]);
+        let at = F::place(sound.found, &lent[..sound.used], prefix, &key[prefix..]);
         store::insert(lent, sound.used, at, key);
         block::set_used(block, sound.used + length);
     }

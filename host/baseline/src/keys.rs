@@ -8,7 +8,9 @@ use limits::{KEY_END, KEY_FRONT, KEY_MAX, KEY_MIDDLE, LABEL_MAX, NAME_MAX};
 
 /// Magic and version.
 const FRONT: [u8; KEY_FRONT] = [2, 1];
-const PREFIX_MAX: usize = KEY_FRONT + NAME_MAX + KEY_MIDDLE;
+/// Bytes of the shortest prefix, and of the longest.
+pub const PREFIX_MIN: usize = KEY_FRONT + 1 + KEY_MIDDLE;
+pub const PREFIX_MAX: usize = KEY_FRONT + NAME_MAX + KEY_MIDDLE;
 
 pub fn name_keeps_rule(name: &[u8]) -> bool {
     (1..=NAME_MAX).contains(&name.len()) && !name.contains(&0)

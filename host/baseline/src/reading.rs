@@ -4,10 +4,11 @@ use crate::answer::{BAD_NAME, DONE, OUTPUT_SHORT};
 use crate::block::Block;
 use crate::check::Sound;
 use crate::dot::Dot;
+use crate::form::{Dead, Form};
 use crate::keys::label_keeps_rule;
-use crate::store::{first_run, keys, stretch, Key};
+use crate::store::{keys, runs, Key};
 use crate::tombstone::Tombstone;
-use limits::{DOT_COUNT_SIZE, DOT_SIZE, LINE_FIXED};
+use limits::{DOT_SIZE, LINE_FIXED};
 
 /// What listing gives.
 #[derive(Clone, Copy, PartialEq, Eq, Debug, Default)]
@@ -36,23 +37,23 @@ pub struct Looked {
 }
 
 /// Listing: answers 1, 13.
-pub fn list(block: &Block, store: &[u8], out: &mut [u8]) -> Listed {
-    try_list(block, store, out).unwrap_or_else(|answer| Listed {
+pub fn list<F: Form>(block: &Block, store: &[u8], out: &mut [u8]) -> Listed {
+    try_list::<F>(block, store, out).unwrap_or_else(|answer| Listed {
         answer,
         ..Listed::default()
     })
 }
 
-fn try_list(block: &Block, store: &[u8], out: &mut [u8]) -> Result<Listed, u8> {
-    let sound = Sound::read(block, store)?;
+fn try_list<F: Form>(block: &Block, store: &[u8], out: &mut [u8]) -> Result<Listed, u8> {
+    let sound = Sound::<F>::read(block, store, &[])?;
     let (used, prefix) = (&store[..sound.used], sound.prefix.len());
-    let dead = Tombstone::of(block, sound.count);
-    let live = || keys(used, prefix).filter(|key| dead.is_empty() || !dead.has(key.dot()));
+    let dead = F::Dead::of(Tombstone::of(block, sound.count));
+    let live = || keys::<F>(used, prefix).filter(|key| dead.slot(key.dot()).is_none());
     // An entry is shorter than its keys: as many bytes as are used are always enough.
     if out.len() < used.len() && out.len() < listing_length(live()) {
         return Err(OUTPUT_SHORT);
     }
-    let (written, labels) = write_listing(live(), out);
+    let (written, labels) = F::write_listing(used, prefix, &dead, out);
     Ok(Listed {
         answer: DONE,
         written,
@@ -73,29 +74,8 @@ fn listing_length<'a>(live: impl Iterator<Item = Key<'a>>) -> usize {
     length
 }
 
-/// Writes the listing of these keys, for which there is room: its length and number of labels.
-fn write_listing<'a>(live: impl Iterator<Item = Key<'a>>, out: &mut [u8]) -> (usize, usize) {
-    let (mut at, mut labels, mut label) = (0, 0, [].as_slice());
-    // The number of the label's dots, and where it is written.
-    let (mut number, mut number_at) = (0u16, 0);
-    for key in live {
-        if key.label() != label {
-            label = key.label();
-            labels += 1;
-            number = 0;
-            number_at = write_label(label, at, out);
-            at = number_at + DOT_COUNT_SIZE;
-        }
-        number += 1;
-        out[number_at..number_at + DOT_COUNT_SIZE].copy_from_slice(&number.to_be_bytes());
-        out[at..at + DOT_SIZE].copy_from_slice(&key.dot().to_bytes());
-        at += DOT_SIZE;
-    }
-    (at, labels)
-}
-
 /// Writes a label's length and the label; where the number of its dots goes.
-fn write_label(label: &[u8], at: usize, out: &mut [u8]) -> usize {
+pub fn write_label(label: &[u8], at: usize, out: &mut [u8]) -> usize {
     let end = at + 1 + label.len();
     out[at] = label.len() as u8;
     out[at + 1..end].copy_from_slice(label);
@@ -103,25 +83,30 @@ fn write_label(label: &[u8], at: usize, out: &mut [u8]) -> usize {
 }
 
 /// Paged listing: answers 1, 5, 13.
-pub fn page(block: &Block, store: &[u8], start: &[u8], out: &mut [u8]) -> Paged {
-    try_page(block, store, start, out).unwrap_or_else(|answer| Paged {
+pub fn page<F: Form>(block: &Block, store: &[u8], start: &[u8], out: &mut [u8]) -> Paged {
+    try_page::<F>(block, store, start, out).unwrap_or_else(|answer| Paged {
         answer,
         ..Paged::default()
     })
 }
 
-fn try_page(block: &Block, store: &[u8], start: &[u8], out: &mut [u8]) -> Result<Paged, u8> {
-    let sound = Sound::read(block, store)?;
+fn try_page<F: Form>(
+    block: &Block,
+    store: &[u8],
+    start: &[u8],
+    out: &mut [u8],
+) -> Result<Paged, u8> {
+    let sound = Sound::<F>::read(block, store, start)?;
     if !start.is_empty() && !label_keeps_rule(start) {
         return Err(BAD_NAME);
     }
     let (used, prefix) = (&store[..sound.used], sound.prefix.len());
     let from = match start.is_empty() {
         true => 0,
-        false => stretch(used, prefix, start).1,
+        false => F::stretch(sound.found, used, prefix, start).1,
     };
-    let dead = Tombstone::of(block, sound.count);
-    let page = write_page(&used[from..], prefix, dead, out);
+    let dead = F::Dead::of(Tombstone::of(block, sound.count));
+    let page = write_page::<F>(&used[from..], prefix, &dead, out);
     match page.more && page.labels == 0 {
         true => Err(OUTPUT_SHORT),
         false => Ok(page),
@@ -129,14 +114,13 @@ fn try_page(block: &Block, store: &[u8], start: &[u8], out: &mut [u8]) -> Result
 }
 
 /// Writes as many whole entries of these keys as fit.
-fn write_page(keys: &[u8], prefix: usize, dead: Tombstone, out: &mut [u8]) -> Paged {
+fn write_page<F: Form>(keys: &[u8], prefix: usize, dead: &F::Dead<'_>, out: &mut [u8]) -> Paged {
     let mut page = Paged::default();
-    let mut rest = keys;
-    while let Some(run) = first_run(rest, prefix) {
-        let live = run.dots().filter(|dot| dead.is_empty() || !dead.has(*dot));
+    for run in runs::<F>(keys, prefix) {
+        let live = run.dots.filter(|dot| dead.slot(*dot).is_none());
         let room = &mut out[page.written..];
         // Live dots are counted only where there is no room for all.
-        if entry_length(run.label, run.number()) > room.len() {
+        if entry_length(run.label, run.number) > room.len() {
             let number = live.clone().count();
             page.more = number > 0 && entry_length(run.label, number) > room.len();
         }
@@ -146,7 +130,6 @@ fn write_page(keys: &[u8], prefix: usize, dead: Tombstone, out: &mut [u8]) -> Pa
         let written = write_entry(run.label, live, room);
         page.written += written;
         page.labels += usize::from(written > 0);
-        rest = &rest[run.keys.len()..];
     }
     page
 }
@@ -174,22 +157,22 @@ fn write_entry(label: &[u8], dots: impl Iterator<Item = Dot>, out: &mut [u8]) ->
 }
 
 /// Lookup: answers 1, 5.
-pub fn lookup(block: &Block, store: &[u8], label: &[u8]) -> Looked {
-    try_lookup(block, store, label).unwrap_or_else(|answer| Looked {
+pub fn lookup<F: Form>(block: &Block, store: &[u8], label: &[u8]) -> Looked {
+    try_lookup::<F>(block, store, label).unwrap_or_else(|answer| Looked {
         answer,
         ..Looked::default()
     })
 }
 
-fn try_lookup(block: &Block, store: &[u8], label: &[u8]) -> Result<Looked, u8> {
-    let sound = Sound::read(block, store)?;
+fn try_lookup<F: Form>(block: &Block, store: &[u8], label: &[u8]) -> Result<Looked, u8> {
+    let sound = Sound::<F>::read(block, store, label)?;
     if !label_keeps_rule(label) {
         return Err(BAD_NAME);
     }
     let (used, prefix) = (&store[..sound.used], sound.prefix.len());
     let dead = Tombstone::of(block, sound.count);
-    let (start, end) = stretch(used, prefix, label);
-    let listed = keys(&used[start..end], prefix).any(|key| !dead.has(key.dot()));
+    let (start, end) = F::stretch(sound.found, used, prefix, label);
+    let listed = keys::<F>(&used[start..end], prefix).any(|key| !dead.has(key.dot()));
     Ok(Looked {
         answer: DONE,
         listed,

@@ -1,10 +1,8 @@
-//! The store: label keys end to end, ascending. Judging it in one pass, and going through the
-//! keys of one that is sound.
+//! The store: label keys end to end, ascending. Going through the keys of one that is sound.
 
-use crate::clock::Clock;
 use crate::dot::Dot;
-use crate::tombstone::Tombstone;
-use limits::{KEY_END, LABEL_MAX, TOMBSTONE_DOTS_MAX};
+use crate::form::{Dead, Ends, Form};
+use limits::{KEY_END, TOMBSTONE_DOTS_MAX};
 
 /// A label key of a sound store.
 #[derive(Clone, Copy)]
@@ -26,7 +24,7 @@ impl<'a> Key<'a> {
 }
 
 /// The dot at the end of these bytes. None where a 00 before or in it is missing.
-fn dot_of(tail: &[u8]) -> Option<Dot> {
+pub fn dot_of(tail: &[u8]) -> Option<Dot> {
     let [0, actor, 0, counter @ ..] = *tail.last_chunk::<KEY_END>()? else {
         return None;
     };
@@ -34,56 +32,40 @@ fn dot_of(tail: &[u8]) -> Option<Dot> {
     Some(Dot { actor, counter })
 }
 
-/// Whether these bytes are label keys with this prefix, each dot seen, strictly ascending.
-pub fn is_sound(used: &[u8], prefix: &[u8], clock: &Clock) -> bool {
-    let mut before: &[u8] = &[];
-    let mut rest = used;
-    while !rest.is_empty() {
-        let Some((tail, dot, after)) = first_key(rest, prefix) else {
-            return false;
-        };
-        if before >= tail || !clock.sees(dot) {
-            return false;
-        }
-        before = tail;
-        rest = after;
-    }
-    true
-}
-
-/// The first key, if it is one: its bytes from the label on, its dot, and what follows.
-fn first_key<'a>(bytes: &'a [u8], prefix: &[u8]) -> Option<(&'a [u8], Dot, &'a [u8])> {
-    let body = bytes.strip_prefix(prefix)?;
-    let label = body.iter().position(|byte| *byte == 0)?;
-    let (tail, rest) = body.split_at_checked(label + KEY_END)?;
-    let dot = dot_of(tail)?;
-    let sound = (1..=LABEL_MAX).contains(&label) && dot.keeps_rule();
-    sound.then_some((tail, dot, rest))
+/// The bytes of the first key from its label on, and what follows them.
+#[inline(always)]
+fn first_tail<'a>(
+    used: &'a [u8],
+    prefix: usize,
+    ends: &mut impl Ends,
+) -> Option<(&'a [u8], &'a [u8])> {
+    let body = used.get(prefix..)?;
+    body.split_at_checked(ends.length(body)? + KEY_END)
 }
 
 /// The keys of a sound store, in order.
-pub fn keys(used: &[u8], prefix: usize) -> Keys<'_> {
+pub fn keys<F: Form>(used: &[u8], prefix: usize) -> Keys<'_, F> {
     Keys {
         rest: used,
         at: 0,
         prefix,
+        ends: F::Ends::default(),
     }
 }
 
 /// Goes from key to key; the prefix is passed over.
-pub struct Keys<'a> {
+pub struct Keys<'a, F: Form> {
     rest: &'a [u8],
     at: usize,
     prefix: usize,
+    ends: F::Ends,
 }
 
-impl<'a> Iterator for Keys<'a> {
+impl<'a, F: Form> Iterator for Keys<'a, F> {
     type Item = Key<'a>;
 
     fn next(&mut self) -> Option<Key<'a>> {
-        let body = self.rest.get(self.prefix..)?;
-        let label = body.iter().position(|byte| *byte == 0)?;
-        let (tail, rest) = body.split_at_checked(label + KEY_END)?;
+        let (tail, rest) = first_tail(self.rest, self.prefix, &mut self.ends)?;
         let at = self.at;
         self.at += self.prefix + tail.len();
         self.rest = rest;
@@ -94,51 +76,83 @@ impl<'a> Iterator for Keys<'a> {
 /// A label and all its keys, which stand end to end and have one length.
 pub struct Run<'a> {
     pub label: &'a [u8],
-    pub keys: &'a [u8],
+    pub number: usize,
+    pub dots: Dots<'a>,
+}
+
+/// The dots of keys of one length.
+#[derive(Clone)]
+pub struct Dots<'a> {
+    keys: &'a [u8],
     length: usize,
 }
 
-impl Run<'_> {
-    pub fn number(&self) -> usize {
-        self.keys.len() / self.length
+impl Iterator for Dots<'_> {
+    type Item = Dot;
+
+    #[inline(always)]
+    fn next(&mut self) -> Option<Dot> {
+        let (key, keys) = self.keys.split_at_checked(self.length)?;
+        self.keys = keys;
+        dot_of(key)
     }
+}
 
-    pub fn dots(&self) -> impl Iterator<Item = Dot> + Clone + '_ {
-        self.keys.chunks_exact(self.length).filter_map(dot_of)
+/// The labels of a sound store, in order.
+pub fn runs<F: Form>(used: &[u8], prefix: usize) -> Runs<'_, F> {
+    Runs {
+        rest: used,
+        prefix,
+        ends: F::Ends::default(),
     }
 }
 
-/// The first label of a sound store.
-pub fn first_run(used: &[u8], prefix: usize) -> Option<Run<'_>> {
-    let first = keys(used, prefix).next()?;
-    let (label, length) = (first.label(), prefix + first.tail.len());
-    let front = &used[..prefix + label.len() + 1];
-    let same = used
-        .chunks_exact(length)
-        .take_while(|key| key.starts_with(front));
-    let keys = &used[..same.count() * length];
-    Some(Run {
-        label,
-        keys,
-        length,
-    })
+/// Goes from label to label.
+pub struct Runs<'a, F: Form> {
+    rest: &'a [u8],
+    prefix: usize,
+    ends: F::Ends,
 }
 
-/// Where a key with this tail goes.
-pub fn place(used: &[u8], prefix: usize, tail: &[u8]) -> usize {
-    let above = keys(used, prefix).find(|key| key.tail > tail);
-    above.map_or(used.len(), |key| key.at)
+impl<'a, F: Form> Iterator for Runs<'a, F> {
+    type Item = Run<'a>;
+
+    #[inline(always)]
+    fn next(&mut self) -> Option<Run<'a>> {
+        let first = self.rest.get(self.prefix..)?;
+        let label = first.get(..self.ends.length(first)?)?;
+        let length = self.prefix + label.len() + KEY_END;
+        let same = |tail: &[u8]| self.ends.are_same(tail, first, label.len());
+        let (mut number, mut end) = (1, length);
+        while { self.rest.get(end + self.prefix..end + length) }.is_some_and(same) {
+            number += 1;
+            end += length;
+        }
+        let (keys, rest) = self.rest.split_at(end);
+        self.rest = rest;
+        let dots = Dots { keys, length };
+        Some(Run {
+            label,
+            number,
+            dots,
+        })
+    }
 }
 
-/// Where the keys of a label begin and end.
-pub fn stretch(used: &[u8], prefix: usize, label: &[u8]) -> (usize, usize) {
-    let first = keys(used, prefix).find(|key| key.label() >= label);
-    let start = first.map_or(used.len(), |key| key.at);
-    let same = keys(&used[start..], prefix).take_while(|key| key.label() == label);
-    (
-        start,
-        start + same.count() * (prefix + label.len() + KEY_END),
-    )
+/// Where a key goes in the stretch of its label, by its tail. By halving: the keys of a label have
+/// one length.
+pub fn place_in((start, end): (usize, usize), used: &[u8], prefix: usize, tail: &[u8]) -> usize {
+    let length = prefix + tail.len();
+    let (mut low, mut high) = (0, (end - start) / length);
+    while low < high {
+        let middle = low + (high - low) / 2;
+        let key = start + middle * length;
+        match used[key + prefix..key + length] < *tail {
+            true => low = middle + 1,
+            false => high = middle,
+        }
+    }
+    start + low * length
 }
 
 /// Puts a key into the used part, for which there is room after it.
@@ -149,18 +163,19 @@ pub fn insert(store: &mut [u8], used: usize, at: usize, key: &[u8]) {
 
 /// Drops the keys whose dots are in the tombstone and sets the freed bytes to 0. Gives the used
 /// length, and which slots of the tombstone had a key.
-pub fn drop_dead(
+pub fn drop_dead<'a, F: Form>(
     store: &mut [u8],
     used: usize,
     prefix: usize,
-    dead: Tombstone,
+    dead: F::Dead<'a>,
 ) -> (usize, [bool; TOMBSTONE_DOTS_MAX]) {
     let mut dropped = [false; TOMBSTONE_DOTS_MAX];
+    let mut ends = F::Ends::default();
     // Keys from `run` to `at` are kept and not yet moved down to `kept`.
     let (mut kept, mut run, mut at) = (0, 0, 0);
-    while let Some(key) = keys(&store[at..used], prefix).next() {
-        let (length, dot) = (prefix + key.tail.len(), key.dot());
-        if let Ok(slot) = dead.find(dot) {
+    while let Some((tail, _)) = first_tail(&store[at..used], prefix, &mut ends) {
+        let (length, dot) = (prefix + tail.len(), dot_of(tail).unwrap_or(Dot::NONE));
+        if let Some(slot) = dead.slot(dot) {
             dropped[slot] = true;
             store.copy_within(run..at, kept);
             kept += at - run;

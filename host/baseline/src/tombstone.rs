@@ -21,6 +21,10 @@ impl<'a> Tombstone<'a> {
         }
     }
 
+    pub fn dots(self) -> impl Iterator<Item = Dot> + 'a {
+        self.slots.iter().map(|slot| Dot::of_bytes(*slot))
+    }
+
     pub fn is_empty(self) -> bool {
         self.slots.is_empty()
     }
@@ -29,6 +33,13 @@ impl<'a> Tombstone<'a> {
     pub fn find(self, dot: Dot) -> Result<usize, usize> {
         self.slots
             .binary_search_by_key(&dot, |slot| Dot::of_bytes(*slot))
+    }
+
+    /// Whether this dot is in this slot.
+    pub fn is_at(self, slot: usize, dot: Dot) -> bool {
+        self.slots
+            .get(slot)
+            .is_some_and(|slot| Dot::of_bytes(*slot) == dot)
     }
 
     pub fn has(self, dot: Dot) -> bool {
@@ -48,6 +59,7 @@ pub fn check(block: &Block, clock: &Clock) -> Option<usize> {
 }
 
 /// Puts a dot in its place; there is room for it. Gives the number of dots.
+#[inline(always)]
 pub fn insert(block: &mut Block, count: usize, dot: Dot) -> usize {
     let Err(slot) = Tombstone::of(block, count).find(dot) else {
         return count;

@@ -1,10 +1,54 @@
-//! The cases of the rules ("Both sides of the line") and the slips, on the baseline.
+//! The cases of the rules ("Both sides of the line") and the slips, on every form of the baseline.
 
 use baseline::*;
 use limits::{
     ACTOR_MAX, DOT_SIZE, KEY_MAX, NUMBER_SIZE, ROW_SIZE, STATE_ACTOR_AT, STATE_CLOCK_AT,
     STATE_COUNT_AT, STATE_NAME_AT, STATE_SIZE, STATE_TOMBSTONE_AT, STATE_USED_AT, STORE_MAX,
 };
+use std::fmt::Debug;
+use std::marker::PhantomData;
+
+/// A form of the baseline, with what a test wants of it beside.
+trait Form: Calls + Clone + PartialEq + Debug {}
+impl Form for Plain {}
+impl Form for Tuned {}
+impl Form for Fastest {}
+
+/// Runs the cases that depend on the form, for each.
+macro_rules! for_each_form {
+    ($($case:ident)*) => {
+        mod plain {
+            $(#[test] fn $case() { super::$case::<baseline::Plain>(); })*
+        }
+        mod tuned {
+            $(#[test] fn $case() { super::$case::<baseline::Tuned>(); })*
+        }
+        mod fastest {
+            $(#[test] fn $case() { super::$case::<baseline::Fastest>(); })*
+        }
+    };
+}
+
+for_each_form! {
+    a1_and_a2
+    r1_late_add
+    c1
+    w1_to_w3
+    w4
+    n1
+    o1
+    labels_and_contexts_of_either_side
+    messages_that_are_none
+    own_dots_to_come
+    a_store_that_is_full
+    an_output_that_is_short
+    pages_of_either_side
+    pages_start_after_any_label
+    a_dead_label_on_a_page
+    a_tombstone_that_is_full
+    slips
+    damage_is_answered_1_by_every_call
+}
 
 /// What lent bytes hold that no call has written.
 const FILL: u8 = 0xA5;
@@ -12,27 +56,29 @@ const B7: &[u8] = b"B7";
 
 /// A controller of set "R1" and its lent store.
 #[derive(Clone, PartialEq, Eq, Debug)]
-struct Rack {
+struct Rack<F> {
     block: Block,
     store: Vec<u8>,
+    form: PhantomData<F>,
 }
 
-impl Rack {
-    fn with_store(actor: u8, length: usize) -> Rack {
+impl<F: Form> Rack<F> {
+    fn with_store(actor: u8, length: usize) -> Rack<F> {
         let mut block = [FILL; STATE_SIZE];
         assert_eq!(set_up(actor, b"R1", &mut block), 0);
         let store = vec![FILL; length];
-        Rack { block, store }
+        let form = PhantomData;
+        Rack { block, store, form }
     }
 
-    fn new(actor: u8) -> Rack {
+    fn new(actor: u8) -> Rack<F> {
         Rack::with_store(actor, 8192)
     }
 
     /// Own add; its answer and message.
     fn add(&mut self, label: &[u8], context: &[(u8, u64)]) -> (u8, Vec<u8>) {
         let (before, mut out) = (self.clone(), vec![FILL; 250]);
-        let wrote = own_add(
+        let wrote = F::own_add(
             &mut self.block,
             &mut self.store,
             label,
@@ -45,12 +91,12 @@ impl Rack {
     /// Own remove; its answer and message.
     fn remove(&mut self, context: &[(u8, u64)]) -> (u8, Vec<u8>) {
         let (before, mut out) = (self.clone(), vec![FILL; 250]);
-        let wrote = own_remove(&mut self.block, &self.store, &dots(context), &mut out);
+        let wrote = F::own_remove(&mut self.block, &self.store, &dots(context), &mut out);
         self.written(&before, wrote, out)
     }
 
     /// What was written; a refusal has changed nothing.
-    fn written(&self, before: &Rack, wrote: Wrote, mut out: Vec<u8>) -> (u8, Vec<u8>) {
+    fn written(&self, before: &Rack<F>, wrote: Wrote, mut out: Vec<u8>) -> (u8, Vec<u8>) {
         assert!(out[wrote.written..].iter().all(|byte| *byte == FILL));
         if wrote.answer != 0 {
             assert_eq!((self, wrote.written), (before, 0));
@@ -61,19 +107,19 @@ impl Rack {
 
     fn take(&mut self, message: &[u8]) -> u8 {
         let before = self.clone();
-        let answer = take_in(&mut self.block, &mut self.store, message);
+        let answer = F::take_in(&mut self.block, &mut self.store, message);
         assert!(answer == 0 || *self == before);
         answer
     }
 
     fn compact(&mut self) -> u8 {
-        compact(&mut self.block, &mut self.store)
+        F::compact(&mut self.block, &mut self.store)
     }
 
     /// The listing's bytes and its number of labels.
     fn list(&self) -> (Vec<u8>, usize) {
         let mut out = vec![FILL; self.store.len()];
-        let listed = list(&self.block, &self.store, &mut out);
+        let listed = F::list(&self.block, &self.store, &mut out);
         assert_eq!(listed.answer, 0);
         out.truncate(listed.written);
         (out, listed.labels)
@@ -82,14 +128,14 @@ impl Rack {
     /// A page: its answer, bytes, number of labels, and whether more follow.
     fn page(&self, start: &[u8], room: usize) -> (u8, Vec<u8>, usize, bool) {
         let mut out = vec![FILL; room];
-        let paged = page(&self.block, &self.store, start, &mut out);
+        let paged = F::page(&self.block, &self.store, start, &mut out);
         assert!(out[paged.written..].iter().all(|byte| *byte == FILL));
         out.truncate(paged.written);
         (paged.answer, out, paged.labels, paged.more)
     }
 
     fn lookup(&self, label: &[u8]) -> Looked {
-        lookup(&self.block, &self.store, label)
+        F::lookup(&self.block, &self.store, label)
     }
 
     fn number(&self, at: usize) -> u64 {
@@ -225,9 +271,8 @@ fn m1() {
     assert_eq!((read.context_at, read.context_len), (10, 9));
 }
 
-#[test]
-fn a1_and_a2() {
-    let mut one = Rack::new(1);
+fn a1_and_a2<F: Form>() {
+    let mut one = Rack::<F>::new(1);
     assert_eq!(one.add(B7, &[]), (0, bytes(A1)));
     let listing = bytes("02 42 37 00 01 01 00 00 00 00 00 00 00 01");
     assert_eq!(one.list(), (listing, 1));
@@ -243,18 +288,16 @@ fn a1_and_a2() {
     assert!(one.store[38..].iter().all(|byte| *byte == FILL));
 }
 
-#[test]
-fn r1_late_add() {
-    let mut two = Rack::new(2);
+fn r1_late_add<F: Form>() {
+    let mut two = Rack::<F>::new(2);
     assert_eq!(two.take(&remove_bytes(&[(1, 1)])), 0);
     assert_eq!((two.row(1), two.sizes()), ((1, 0), (0, 0)));
     assert_eq!(two.take(&bytes(A1)), 0);
     assert_eq!((two.sizes(), two.list()), ((0, 0), (vec![], 0)));
 }
 
-#[test]
-fn c1() {
-    let mut one = Rack::new(1);
+fn c1<F: Form>() {
+    let mut one = Rack::<F>::new(1);
     one.add(B7, &[]);
     assert_eq!(one.take(&add_bytes(B7, (2, 1), &[])), 0);
     assert_eq!(one.remove(&[(1, 1)]), (0, remove_bytes(&[(1, 1)])));
@@ -263,20 +306,18 @@ fn c1() {
     assert_eq!((found.at, found.len, found.listed), (0, 38, true));
 }
 
-#[test]
-fn w1_to_w3() {
-    let mut one = Rack::new(1);
+fn w1_to_w3<F: Form>() {
+    let mut one = Rack::<F>::new(1);
     assert_eq!(one.take(&add_bytes(B7, (3, 65), &[])), 10);
     assert_eq!(one.take(&add_bytes(B7, (3, 64), &[])), 0);
     assert_eq!(one.row(3), (0, 1 << 63));
-    let mut one = Rack::new(1);
+    let mut one = Rack::<F>::new(1);
     assert_eq!(one.take(&add_bytes(B7, (3, 1), &[(3, 65)])), 0);
     assert_eq!(one.row(3), (1, 1 << 63));
 }
 
-#[test]
-fn w4() {
-    let mut one = Rack::new(1);
+fn w4<F: Form>() {
+    let mut one = Rack::<F>::new(1);
     for event in 2..=64 {
         assert_eq!(one.take(&add_bytes(B7, (3, event), &[])), 0);
     }
@@ -285,17 +326,15 @@ fn w4() {
     assert_eq!(one.row(3), (64, 0));
 }
 
-#[test]
-fn n1() {
-    let mut one = Rack::new(1);
+fn n1<F: Form>() {
+    let mut one = Rack::<F>::new(1);
     one.add(B7, &[]);
     assert_eq!(one.take(&add_bytes(B7, (1, 2), &[])), 8);
     assert_eq!(one.take(&add_bytes(B7, (1, 1), &[])), 0);
 }
 
-#[test]
-fn o1() {
-    let mut one = Rack::new(1);
+fn o1<F: Form>() {
+    let mut one = Rack::<F>::new(1);
     for label in [b"B8".as_slice(), b"B70", b"B7"] {
         assert_eq!(one.add(label, &[]).0, 0);
     }
@@ -311,9 +350,8 @@ fn o1() {
     );
 }
 
-#[test]
-fn labels_and_contexts_of_either_side() {
-    let mut one = Rack::new(1);
+fn labels_and_contexts_of_either_side<F: Form>() {
+    let mut one = Rack::<F>::new(1);
     assert_eq!(one.add(&[b'x'; 32], &[]).0, 0);
     assert_eq!(one.add(&[b'x'; 33], &[]).0, 5);
     assert_eq!(one.lookup(&[b'x'; 33]).answer, 5);
@@ -323,9 +361,8 @@ fn labels_and_contexts_of_either_side() {
     assert_eq!(one.row(2), (16, 0));
 }
 
-#[test]
-fn messages_that_are_none() {
-    let mut one = Rack::new(1);
+fn messages_that_are_none<F: Form>() {
+    let mut one = Rack::<F>::new(1);
     assert_eq!(one.take(b"PTL\x00\x02q"), 3);
     assert_eq!(one.take(b"PTL\x00\x01q"), 4);
     assert_eq!(one.take(b"PTL\x00\x01"), 4);
@@ -333,12 +370,11 @@ fn messages_that_are_none() {
     assert_eq!(one.take(b"PTM\x00\x01"), 2);
     assert_eq!(one.take(b"PTL\x00\x01r\x02R2\x00"), 7);
     assert_eq!(one.take(b"PTL\x00\x01r\x02R1\x00"), 0);
-    assert_eq!(one, Rack::new(1));
+    assert_eq!(one, Rack::<F>::new(1));
 }
 
-#[test]
-fn own_dots_to_come() {
-    let mut one = Rack::new(1);
+fn own_dots_to_come<F: Form>() {
+    let mut one = Rack::<F>::new(1);
     one.add(B7, &[]);
     assert_eq!(one.add(B7, &[(1, 2)]).0, 6);
     assert_eq!(one.add(B7, &[(1, 3)]).0, 8);
@@ -348,29 +384,27 @@ fn own_dots_to_come() {
     assert_eq!(one.remove(&[(1, u64::MAX)]).0, 0);
 }
 
-#[test]
-fn a_store_that_is_full() {
-    assert_eq!(Rack::with_store(1, 0).add(B7, &[]).0, 12);
-    assert_eq!(Rack::with_store(1, 18).add(B7, &[]).0, 12);
-    let mut one = Rack::with_store(1, 19);
+fn a_store_that_is_full<F: Form>() {
+    assert_eq!(Rack::<F>::with_store(1, 0).add(B7, &[]).0, 12);
+    assert_eq!(Rack::<F>::with_store(1, 18).add(B7, &[]).0, 12);
+    let mut one = Rack::<F>::with_store(1, 19);
     assert_eq!(one.add(B7, &[]).0, 0);
     assert_eq!(one.add(B7, &[]).0, 12);
-    assert_eq!(Rack::with_store(1, STORE_MAX).compact(), 0);
-    assert_eq!(Rack::with_store(1, STORE_MAX + 1).compact(), 1);
+    assert_eq!(Rack::<F>::with_store(1, STORE_MAX).compact(), 0);
+    assert_eq!(Rack::<F>::with_store(1, STORE_MAX + 1).compact(), 1);
 }
 
-#[test]
-fn an_output_that_is_short() {
-    let mut one = Rack::new(1);
+fn an_output_that_is_short<F: Form>() {
+    let mut one = Rack::<F>::new(1);
     let before = one.clone();
     let mut out = [FILL; 21];
-    let wrote = own_add(&mut one.block, &mut one.store, B7, &[], &mut out);
+    let wrote = F::own_add(&mut one.block, &mut one.store, B7, &[], &mut out);
     assert_eq!((wrote.answer, wrote.written), (13, 0));
     assert_eq!((&one, out), (&before, [FILL; 21]));
     one.add(B7, &[]);
     for room in [13, 14] {
         let mut out = [FILL; 14];
-        let listed = list(&one.block, &one.store, &mut out[..room]);
+        let listed = F::list(&one.block, &one.store, &mut out[..room]);
         assert_eq!(listed.answer, if room < 14 { 13 } else { 0 });
         assert_eq!(out == [FILL; 14], room < 14);
     }
@@ -382,8 +416,8 @@ fn refused(answer: u8) -> (u8, Vec<u8>, usize, bool) {
 }
 
 /// Labels A, B7 with two dots and C, and B8 with a removed dot alone; the entries of the three.
-fn three_labels() -> (Rack, [Vec<u8>; 3]) {
-    let mut one = Rack::new(1);
+fn three_labels<F: Form>() -> (Rack<F>, [Vec<u8>; 3]) {
+    let mut one = Rack::<F>::new(1);
     for label in [B7, b"C", b"B8", b"A", B7] {
         assert_eq!(one.add(label, &[]).0, 0);
     }
@@ -393,9 +427,8 @@ fn three_labels() -> (Rack, [Vec<u8>; 3]) {
     (one, entries)
 }
 
-#[test]
-fn pages_of_either_side() {
-    let (one, entries) = three_labels();
+fn pages_of_either_side<F: Form>() {
+    let (one, entries) = three_labels::<F>();
     for (room, labels) in [(13, 1), (35, 1), (36, 2), (48, 2), (49, 3), (99, 3)] {
         let bytes = entries[..labels].concat();
         assert_eq!(one.page(b"", room), (0, bytes, labels, labels < 3));
@@ -407,12 +440,11 @@ fn pages_of_either_side() {
     assert_eq!(one.page(&[b'x'; 33], 0), refused(5));
     assert_eq!(one.page(b"A\0", 99), refused(5));
     assert_eq!(one.page(&[b'x'; 32], 0), (0, vec![], 0, false));
-    assert_eq!(Rack::new(1).page(b"", 0), (0, vec![], 0, false));
+    assert_eq!(Rack::<F>::new(1).page(b"", 0), (0, vec![], 0, false));
 }
 
-#[test]
-fn pages_start_after_any_label() {
-    let (one, entries) = three_labels();
+fn pages_start_after_any_label<F: Form>() {
+    let (one, entries) = three_labels::<F>();
     let starts: [(&[u8], usize); 7] = [
         (b"", 0),
         (b"@", 0),
@@ -429,17 +461,15 @@ fn pages_start_after_any_label() {
 }
 
 /// A label whose dots are all removed takes no room.
-#[test]
-fn a_dead_label_on_a_page() {
-    let (mut one, entries) = three_labels();
+fn a_dead_label_on_a_page<F: Form>() {
+    let (mut one, entries) = three_labels::<F>();
     assert_eq!(one.remove(&[(1, 2)]).0, 0);
     assert_eq!(one.page(B7, 0), (0, vec![], 0, false));
     assert_eq!(one.page(b"", 36), (0, entries[..2].concat(), 2, false));
 }
 
-#[test]
-fn a_tombstone_that_is_full() {
-    let mut one = Rack::new(1);
+fn a_tombstone_that_is_full<F: Form>() {
+    let mut one = Rack::<F>::new(1);
     for _ in 0..129 {
         assert_eq!(one.add(B7, &[]).0, 0);
     }
@@ -469,14 +499,13 @@ fn set_up_refused() {
 }
 
 /// Slips 1 to 3; 4 is W4 and 5 is C1.
-#[test]
-fn slips() {
-    let mut two = Rack::new(2);
+fn slips<F: Form>() {
+    let mut two = Rack::<F>::new(2);
     assert_eq!(two.take(&bytes(A1)), 0);
     assert_eq!(two.remove(&[(1, 1)]).0, 0);
     assert_eq!((two.compact(), two.take(&bytes(A1))), (0, 0));
     assert_eq!((two.sizes(), two.list().1), ((0, 0), 0));
-    let mut one = Rack::new(1);
+    let mut one = Rack::<F>::new(1);
     one.add(b"A", &[]);
     one.add(B7, &[]);
     one.remove(&[(1, 2)]);
@@ -486,9 +515,8 @@ fn slips() {
 }
 
 /// Each byte of block and used store matters: another value is damage or another state.
-#[test]
-fn damage_is_answered_1_by_every_call() {
-    let mut one = Rack::new(1);
+fn damage_is_answered_1_by_every_call<F: Form>() {
+    let mut one = Rack::<F>::new(1);
     one.add(B7, &[]);
     one.add(b"B8", &[]);
     one.remove(&[(1, 1)]);
@@ -513,7 +541,7 @@ fn damage_is_answered_1_by_every_call() {
     }
 }
 
-fn answers_1(mut harmed: Rack) {
+fn answers_1<F: Form>(mut harmed: Rack<F>) {
     assert_eq!(harmed.add(B7, &[]).0, 1);
     assert_eq!(harmed.remove(&[]).0, 1);
     assert_eq!(harmed.take(&bytes(A1)), 1);
@@ -522,6 +550,6 @@ fn answers_1(mut harmed: Rack) {
     assert_eq!((looked.answer, looked.len, looked.listed), (1, 0, false));
     assert_eq!(harmed.page(b"", 99), refused(1));
     assert_eq!(harmed.page(b"\0", 99), refused(1));
-    let listed = list(&harmed.block, &harmed.store, &mut [FILL; 99]);
+    let listed = F::list(&harmed.block, &harmed.store, &mut [FILL; 99]);
     assert_eq!((listed.answer, listed.written, listed.labels), (1, 0, 0));
 }

@@ -1,15 +1,15 @@
 //! What the arguments of `ptl` ask for, or what is wrong with them.
 
 use crate::bench;
-use crate::engine::{Baseline, Engine, Second};
+use crate::engine::{Engine, Second, FASTEST, PLAIN, TUNED};
 use crate::simulate;
 use std::collections::BTreeMap;
 
 pub const USAGE: &str = "\
 usage: ptl console
-       ptl compare [--calls N] [--seed S] [--against reference|baseline]
+       ptl compare [--calls N] [--seed S] [--against reference|baseline|tuned|fastest]
        ptl simulate [--seed S] [--svg FILE] [--quiet]
-       ptl bench [--quick]
+       ptl bench [--quick] [--fastest]
        ptl --help | -h | --version
 
 console   runs up to sixteen controllers: a command a line on standard input,
@@ -17,17 +17,18 @@ console   runs up to sixteen controllers: a command a line on standard input,
           `? REASON`, or `? field N: REASON` with the number of the field after the
           command's word
 compare   runs N random calls (200000) from the seed S (1) on the product and on
-          the reference (or the baseline), and stops at the first difference with a
-          script of it; exit status 1 on a difference, and if N is at least 200000
-          and an answer that a call can give was not met
+          the reference (or the baseline, or its tuned or fastest form), and stops at
+          the first difference with a script of it; exit status 1 on a difference, and
+          if N is at least 200000 and an answer that a call can give was not met
 simulate  plays a day of sixteen controllers and a bad radio from the seed S (1):
           a line a phase, then which bins each lamp lights; --svg draws to FILE how
           many agree over time, --quiet prints the last line alone; exit status 1 if
           a controller disagrees with the rule of what it accepted, or in the end
           with the rule of all messages
-bench     times the product against the baseline and prints tables of times and
-          ratios; --quick takes a few seconds and is less exact; exit status 1 if
-          answers or bytes differ
+bench     times the product against the plain and the tuned form of the baseline and
+          prints tables of times and ratios; --fastest takes the fastest form in place
+          of the tuned one, --quick takes a few seconds and is less exact; exit status 1
+          if answers or bytes differ
 ";
 
 /// What the arguments ask for.
@@ -40,7 +41,11 @@ pub enum Asked {
         seed: u64,
         against: &'static dyn Engine,
     },
-    Bench(bench::Plan),
+    Bench {
+        plan: bench::Plan,
+        /// The form of the baseline beside the plain one.
+        form: &'static dyn Engine,
+    },
     Simulate(simulate::Options),
 }
 
@@ -57,7 +62,7 @@ const COMMANDS: [(&str, &[Choice]); 4] = [
         &[
             ("--calls", NUMBER),
             ("--seed", NUMBER),
-            ("--against", Some("reference or baseline")),
+            ("--against", Some("reference, baseline, tuned or fastest")),
         ],
     ),
     (
@@ -68,7 +73,7 @@ const COMMANDS: [(&str, &[Choice]); 4] = [
             ("--quiet", None),
         ],
     ),
-    ("bench", &[("--quick", None)]),
+    ("bench", &[("--quick", None), ("--fastest", None)]),
 ];
 
 /// Reads the arguments; an error says which of them is wrong, and what it should be.
@@ -89,17 +94,25 @@ pub fn asked(arguments: &[String]) -> Result<Asked, String> {
         "simulate" => Ok(Asked::Simulate(simulate::Options {
             seed: given.number("--seed", 1)?,
             svg: given.values.get("--svg").map(|file| file.to_string()),
-            quiet: given.values.contains_key("--quiet"),
+            quiet: given.has("--quiet"),
         })),
-        "bench" if given.values.contains_key("--quick") => Ok(Asked::Bench(bench::QUICK)),
-        "bench" => Ok(Asked::Bench(bench::FULL)),
+        "bench" => Ok(Asked::Bench {
+            plan: match given.has("--quick") {
+                true => bench::QUICK,
+                false => bench::FULL,
+            },
+            form: match given.has("--fastest") {
+                true => FASTEST,
+                false => TUNED,
+            },
+        }),
         _ => Ok(Asked::Console),
     }
 }
 
 /// What the product can be compared with, by its name.
 fn engine_of(name: &str) -> Option<&'static dyn Engine> {
-    let engines: [&dyn Engine; 2] = [&Second, &Baseline];
+    let engines: [&dyn Engine; 4] = [&Second, PLAIN, TUNED, FASTEST];
     engines.into_iter().find(|engine| engine.name() == name)
 }
 
@@ -147,6 +160,10 @@ impl<'a> Given<'a> {
             Some(_) => Err(format!("{} {name} is given twice", self.command)),
             None => Ok(after),
         }
+    }
+
+    fn has(&self, name: &str) -> bool {
+        self.values.contains_key(name)
     }
 
     /// The value of an option, if it is given.

@@ -11,7 +11,7 @@ mod script;
 mod simulate;
 
 use arguments::{asked, Asked, USAGE};
-use engine::{Baseline, Product};
+use engine::{Product, PLAIN};
 use std::env;
 use std::io::{self, Write};
 use std::process::ExitCode;
@@ -51,7 +51,7 @@ fn obey(asked: Asked) -> io::Result<bool> {
             seed,
             against,
         } => compare::compare([&Product, against], calls, seed, &mut output),
-        Asked::Bench(plan) => bench::bench([&Product, &Baseline], plan, &mut output),
+        Asked::Bench { plan, form } => bench::bench([&Product, PLAIN, form], plan, &mut output),
         Asked::Simulate(options) => simulate::simulate(&Product, &options, &mut output),
     }
 }

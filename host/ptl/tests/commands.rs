@@ -46,10 +46,11 @@ ptl compare --calls -1: compare --calls wants NUMBER, not '-1'
 ptl compare --calls 1 --calls 1: compare --calls is given twice
 ptl compare --calls 1 --seed: compare --seed wants NUMBER
 ptl compare --seed 18446744073709551616: compare --seed wants NUMBER, not '18446744073709551616'
-ptl compare --against product: compare --against wants reference or baseline, not 'product'
-ptl compare --against: compare --against wants reference or baseline
-ptl bench x: bench has no 'x'; it has --quick
+ptl compare --against product: compare --against wants reference, baseline, tuned or fastest, not 'product'
+ptl compare --against: compare --against wants reference, baseline, tuned or fastest
+ptl bench x: bench has no 'x'; it has --quick, --fastest
 ptl bench --quick --quick: bench --quick is given twice
+ptl bench --fastest --fastest: bench --fastest is given twice
 ptl simulate x: simulate has no 'x'; it has --seed, --svg, --quiet
 ptl simulate --seed: simulate --seed wants NUMBER
 ptl simulate --seed x: simulate --seed wants NUMBER, not 'x'
@@ -146,11 +147,28 @@ fn product_and_baseline_agree_in_200000_calls() {
 }
 
 #[test]
+fn product_and_tuned_baseline_agree_in_200000_calls() {
+    agree_in_200000_calls(&["--against", "tuned"]);
+}
+
+#[test]
+fn product_and_fastest_baseline_agree_in_200000_calls() {
+    agree_in_200000_calls(&["--against", "fastest"]);
+}
+
+#[test]
 fn a_quick_bench_passes_in_time() {
+    passes_in_time(&["bench", "--quick"], "tuned");
+    passes_in_time(&["bench", "--quick", "--fastest"], "fastest");
+}
+
+/// Runs a quick bench; this form is timed beside the plain one.
+fn passes_in_time(arguments: &[&str], form: &str) {
     let start = Instant::now();
-    let run = output(&["bench", "--quick"]);
+    let run = output(arguments);
     let tables = String::from_utf8(run.stdout).expect("ASCII");
     assert_eq!(run.status.code(), Some(0), "{tables}");
+    assert!(tables.contains(&format!(" /{form} ")), "{tables}");
     assert!(tables.contains("\nTaking in 2000 messages"), "{tables}");
     assert!(tables.ends_with("Answers and bytes were equal in every run.\n"));
     assert!(start.elapsed() < Duration::from_secs(120), "{tables}");

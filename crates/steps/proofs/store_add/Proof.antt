@@ -30,7 +30,7 @@ insert-entry-requires c κs =
     let e = c .before .before .before in
     let f = fits e in
     let size = front-size (start e .args .head .name .bytes) (start e .args .head .name .len) (f .short) in
-    (f .named, f .labelled, f .begins, rw (← size) (f .room-for), f .front)
+    (f .named, f .labelled, rw (← size) (f .room-for), f .front)
 
 same-length : tie.Need-same-length
 same-length c = search needs

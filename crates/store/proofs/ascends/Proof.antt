@@ -1,5 +1,5 @@
--- By the first numbers where they differ, else by the bytes.
-use Rattle.store.proofs.FirstNumbers.{numbers-decide}
+-- By the first numbers where they differ, else by the bytes after the first 8.
+use Rattle.store.proofs.FirstNumbers.{tail-room, tail-some, numbers-decide, after-none-first, rest-decides}
 use borrow.Author.Needs.{needs}
 use Rattle.store.proofs.ascends.Statement.{statement}
 use Rattle.store.proofs.ascends.Tie as tie
@@ -13,42 +13,14 @@ pick-requires-2 c κs = search needs
 returns : tie.Need-returns
 returns c = search (needs, numbers-decide)
 
-sub-lower : tie.Need-sub-lower
-sub-lower c = search needs
-
-part-lower-start : tie.Need-part-lower-start
-part-lower-start c = search needs
-
-part-lower-end : tie.Need-part-lower-end
-part-lower-end c = search needs
-
-sub-lower-2 : tie.Need-sub-lower-2
-sub-lower-2 c = search needs
-
-part-lower-start-2 : tie.Need-part-lower-start-2
-part-lower-start-2 c = search needs
-
-part-lower-end-2 : tie.Need-part-lower-end-2
-part-lower-end-2 c = search needs
-
-lower-requires : tie.Need-lower-requires
-lower-requires c κs = search needs
-
 returns-2 : tie.Need-returns-2
-returns-2 c = search needs
+returns-2 c = search (needs, after-none-first)
+
+lower-later-requires : tie.Need-lower-later-requires
+lower-later-requires c κs = (search (needs, tail-room), search needs, search (needs, tail-some), search needs)
+
+returns-3 : tie.Need-returns-3
+returns-3 c = search (needs, rest-decides)
 
 pub ascends-spec : {M : Type 1} → statement M
-ascends-spec =
-    tie.close
-    (tie.spec
-    pick-requires
-    pick-requires-2
-    returns
-    sub-lower
-    part-lower-start
-    part-lower-end
-    sub-lower-2
-    part-lower-start-2
-    part-lower-end-2
-    lower-requires
-    returns-2)
+ascends-spec = tie.close (tie.spec pick-requires pick-requires-2 returns returns-2 lower-later-requires returns-3)

@@ -10,9 +10,6 @@ starts-with-requires c κs = search needs
 returns : tie.Need-returns
 returns c = search (needs, front-other)
 
-add-at : tie.Need-add-at
-add-at c = search needs
-
 sub-after-length : tie.Need-sub-after-length
 sub-after-length c = search (needs, front-fits)
 
@@ -40,7 +37,6 @@ front-length-spec =
     (tie.spec
     starts-with-requires
     returns
-    add-at
     sub-after-length
     part-after-length-start
     part-after-length-end

@@ -4,22 +4,19 @@ use mathlib.Core.Path.{_≡_}
 use mathlib.Core.Bool.{true}
 use native.Mathlib.Omega.{arith}
 use mathlib.Core.List.{append-assoc}
-use lib.ListN.{length, take, drop}
-use lib.Seq.{take-at}
-use Rattle.wire.specs.Lists.{all}
-use Rattle.wire.specs.Bytes.{Bytes, startsWith, putAt}
+use lib.ListN.{length, take}
+use Rattle.wire.specs.Bytes.{Bytes, putAt}
 use Rattle.dots.specs.Names.{Name, Label, nameOk, labelOk, nameMost, labelMost}
 use Rattle.dots.specs.declared.Dot.{Dot}
 use Rattle.dots.specs.Entries.{entry}
-use Rattle.keys.specs.Entry.{prefix, suffix, entryKey}
-use Rattle.keys.proofs.EntryKeys.{entry-key-parts, length-prefix, length-entry-key}
-use Rattle.store.specs.Cut.{keysOf}
+use Rattle.keys.specs.Entry.{suffix, entryKey}
+use Rattle.keys.proofs.EntryKeys.{entry-key-parts, length-entry-key}
 use Rattle.store.specs.Place.{insertedKey, insertedEntry, LabelPassed, PlacePast}
-use Rattle.store.proofs.Starts.{name-most, label-most, label-some, put-read, put-size, put-room}
+use Rattle.store.proofs.Starts.{name-most, label-most, put-read, put-size, put-room}
 use borrow.Author.Needs.{needs}
 use Rattle.store.proofs.insert_entry.Statement.{statement}
 use Rattle.store.proofs.insert_entry.Tie as tie
-use Rattle.keys.specs.Key.{labelKeyFixed, prefixFixed}
+use Rattle.keys.specs.Key.{labelKeyFixed}
 
 fits : (name : Name) (label : Label) → nameOk name ≡ true → labelOk label ≡ true → length name + length label + labelKeyFixed ≤ nameMost + labelMost + labelKeyFixed
 fits name label ok ok′ = omega (arith, name-most name ok, label-most label ok′)
@@ -28,14 +25,8 @@ module _ (name : Name) (label : Label) (d : Dot) (s t store : Bytes) (n used : �
   key-read : take n t ≡ entryKey name (entry label d)
   key-read = put-read s t (entryKey name (entry label d)) n (length name + length label + labelKeyFixed) put count (length-entry-key name (entry label d))
 
-  long : labelOk label ≡ true → length name + 12 ≤ length (take n t)
-  long ok = rw (key-read, length-entry-key) (omega (arith, label-some label ok))
-
   -- the keys from `low` on, among which its place is
   module _ (low : ℕ) (p : LabelPassed name label (take used store) low) where
-    begin : all (startsWith (prefix name)) (keysOf (length name) (take used store)) ≡ true → all (startsWith (take (length name + prefixFixed) (take n t))) (keysOf (length name) (drop low (take used store))) ≡ true
-    begin every = rw (key-read, entry-key-parts, take-at (prefix name) _ (length name + prefixFixed) (length-prefix name)) (p .rest (startsWith (prefix name)) every)
-
     placed : PlacePast (length name) (take used store) (take n t) low
     placed = record { within = p .within; placed = rw (key-read, entry-key-parts) (rw append-assoc at (p .placed (suffix d))) }
 
@@ -59,7 +50,7 @@ slice-aggregate-insert-key : tie.Need-slice-aggregate-insert-key
 slice-aggregate-insert-key c = search (needs, put-size, length-entry-key)
 
 insert-key-requires : tie.Need-insert-key-requires
-insert-key-requires c κs = (search (needs, name-most), search (needs, room), record { long = search (needs, long); past = search (needs, placed); alike = search (needs, begin) })
+insert-key-requires c κs = (search (needs, name-most), search (needs, room), search (needs, placed))
 
 add-result : tie.Need-add-result
 add-result c = search needs

@@ -22,14 +22,14 @@ module _ (store : Bytes) (used k : ℕ) (room : used + k ≤ length store) where
   within : (at : ℕ) → at ≤ length (take used store) → at ≤ used
   within at h = let size = used-size in omega arith
 
-slice-reshare-prefix-place-after : tie.Need-slice-reshare-prefix-place-after
-slice-reshare-prefix-place-after c = search needs
+slice-reshare-prefix-place : tie.Need-slice-reshare-prefix-place
+slice-reshare-prefix-place c = search needs
 
-slice-aggregate-place-after : tie.Need-slice-aggregate-place-after
-slice-aggregate-place-after c = search (needs, used-size)
+slice-aggregate-place : tie.Need-slice-aggregate-place
+slice-aggregate-place c = search (needs, used-size)
 
-place-after-requires : tie.Need-place-after-requires
-place-after-requires c κs = search needs
+place-requires : tie.Need-place-requires
+place-requires c κs = search needs
 
 insert-piece-requires : tie.Need-insert-piece-requires
 insert-piece-requires c κs = (search (needs, within), search needs)
@@ -44,9 +44,9 @@ pub insert-key-spec : {M : Type 1} → statement M
 insert-key-spec =
     tie.close
     (tie.spec
-    slice-reshare-prefix-place-after
-    slice-aggregate-place-after
-    place-after-requires
+    slice-reshare-prefix-place
+    slice-aggregate-place
+    place-requires
     insert-piece-requires
     same-length
     returns)

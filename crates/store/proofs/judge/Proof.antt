@@ -1,10 +1,10 @@
 -- The lengths, and then the pass over the used bytes, with the prefix as it was put.
 use Prim.Native.Nat.{ℕ, _+_, _≤_, _<_}
-use mathlib.Core.Path.{_≡_, sym, _∙_}
+use mathlib.Core.Path.{_≡_, sym, ap, _∙_}
 use mathlib.Core.Bool.{true, false}
-use mathlib.Core.List.{List}
+use mathlib.Core.List.{List, _++_}
 use native.Mathlib.Omega.{arith}
-use lib.ListN.{length, take}
+use lib.ListN.{length, take, length-take}
 use lib.Seq.{length-take-le}
 use borrow.Author.Tests.{lt-leb, le-leb}
 use Rattle.wire.specs.Bytes.{Bytes}
@@ -14,7 +14,10 @@ use Rattle.wire.specs.Lists.{all, ascends}
 use Rattle.store.specs.Cut.{keysAfter}
 use Rattle.store.specs.declared.Judgement.{Judgement}
 use Rattle.store.specs.declared.Judgement.the-variants.{Sound}
-use Rattle.store.specs.Place.{Judged}
+use Rattle.store.specs.Place.{Judged, KeysJudged, StoreJudged}
+use Rattle.store.specs.Pass.{nameIn, IsStart}
+use Rattle.store.proofs.Prefixes.{name-in}
+use Rattle.keys.specs.Entry.{prefix}
 use Rattle.store.specs.Valid.{usedOk, storeOk, storeMost}
 use Rattle.store.proofs.LowFront.{passed-none, judged-bad, judged-good}
 use Rattle.store.proofs.Starts.{name-most, put-read, put-size, put-room}
@@ -47,8 +50,23 @@ module _ (name : Name) (words : List ℕ) (store : Bytes) (used : ℕ) where
         let ok : true ≡ usedOk name words (take used store) = rw e in
         judged-good n start (take used store) (storeOk name words store used) 0 (ok ∙ by-keys (omega arith)) (passed-none n start (take used store))
 
+-- the prefix as it was put
+module _ (name : Name) (ok : nameOk name ≡ true) (start : Bytes) (put : start ≡ prefix name) where
+  named : nameIn start ≡ name
+  named = ap nameIn put ∙ name-in name
+
+  is-start : IsStart start
+  is-start = (rw named ok, rw named put)
+
+  store-judged : (words : List ℕ) (store label : Bytes) (used : ℕ) (r : Judgement) → length store ≤ storeMost → used ≤ length store
+      → KeysJudged (nameIn start) words (take used store) label r → StoreJudged name words store used label r
+  store-judged words store label used r most h j = judged name words store used most (length name) (prefix name ++ label) r h (rw named at j)
+
 fits : (name : Name) → nameOk name ≡ true → length name + prefixFixed ≤ nameMost + prefixFixed
 fits name ok = omega (arith, name-most name ok)
+
+used-few : (store : Bytes) (used : ℕ) → length store ≤ storeMost → length (take used store) ≤ storeMost
+used-few store used h = rw length-take (omega arith)
 
 used-size : (store : Bytes) (used : ℕ) → used ≤ length store → used ≡ length (take used store)
 used-size store used h = sym (length-take-le used store h)
@@ -78,10 +96,10 @@ slice-aggregate-judge-keys-2 : tie.Need-slice-aggregate-judge-keys-2
 slice-aggregate-judge-keys-2 c = search (needs, used-size)
 
 judge-keys-requires : tie.Need-judge-keys-requires
-judge-keys-requires c κs = search (needs, put-read, length-prefix)
+judge-keys-requires c κs = (search (needs, is-start, put-read, length-prefix), search (needs, used-few))
 
 returns-4 : tie.Need-returns-4
-returns-4 c = search (needs, judged)
+returns-4 c = search (needs, store-judged, put-read, length-prefix)
 
 pub judge-spec : {M : Type 1} → statement M
 judge-spec =

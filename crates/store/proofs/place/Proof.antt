@@ -1,79 +1,45 @@
--- The invariant: every key before `at` is lower, so the place is found in the rest. The measure is what is left of the keys.
-use Prim.Native.Nat.{_+_, _-_, _≤_}
+-- Among the keys past the first `low` bytes.
+use Prim.Native.Nat.{ℕ, _+_, _-_, _≤_}
 use mathlib.Core.Path.{_≡_}
-use lib.ListN.{length, drop}
+use mathlib.Core.Bool.{false}
+use native.Mathlib.Omega.{arith}
+use lib.ListN.{length, take, drop, length-drop}
+use Rattle.wire.specs.Bytes.{Bytes}
+use Rattle.wire.proofs.Parts.{rest-part}
 use Rattle.store.specs.Cut.{keysOf}
-use Rattle.store.specs.Place.{placeIn}
-use Rattle.store.proofs.Walk.{end-within, end-fits, walk-falls, while-left, while-passed, while-ended}
+use Rattle.store.specs.Place.{lengthWhile, passing, placeIn, PlacePast}
 use borrow.Author.Needs.{needs}
 use Rattle.store.proofs.place.Statement.{statement}
 use Rattle.store.proofs.place.Tie as tie
 
-abbrev Inv-loop : tie.InvT-loop
-Inv-loop n keys key low at₀ at = (at ≤ length keys) × (placeIn key (keysOf n keys) ≡ at + placeIn key (keysOf n (drop at keys)))
+module _ (n : ℕ) (keys key : Bytes) (low len : ℕ) (p : PlacePast n keys key low)
+    (walked : (len ≡ lengthWhile (passing false key) (keysOf n (take (length keys - low) (drop low keys)))) × (len ≤ length (take (length keys - low) (drop low keys)))) where
+  here : (len ≡ placeIn key (keysOf n (drop low keys))) × (len ≤ length (drop low keys))
+  here = rw rest-part at walked
 
-abbrev μ-loop : tie.MeasureT-loop
-μ-loop n keys key low at₀ at = length keys - at
+  within : low + len ≤ length keys
+  within = omega (arith, p .within, here .1, length-drop low keys)
 
-loop-holds : tie.Need-loop-holds Inv-loop μ-loop
-loop-holds c = search needs
+  is-place : (low + len ≡ placeIn key (keysOf n keys)) × (low + len ≤ length keys)
+  is-place = (omega (arith, here .0, p .placed), within)
 
-sub-key-length : tie.Need-sub-key-length Inv-loop μ-loop
-sub-key-length c = search needs
+sub-walk-past : tie.Need-sub-walk-past
+sub-walk-past c = search needs
 
-part-key-length-start : tie.Need-part-key-length-start Inv-loop μ-loop
-part-key-length-start c = search needs
+part-walk-past-start : tie.Need-part-walk-past-start
+part-walk-past-start c = search needs
 
-part-key-length-end : tie.Need-part-key-length-end Inv-loop μ-loop
-part-key-length-end c = search needs
+part-walk-past-end : tie.Need-part-walk-past-end
+part-walk-past-end c = search needs
 
-key-length-requires : tie.Need-key-length-requires Inv-loop μ-loop
-key-length-requires c κs = search needs
+walk-past-requires : tie.Need-walk-past-requires
+walk-past-requires c κs = search needs
 
-add-end : tie.Need-add-end Inv-loop μ-loop
-add-end c = search (needs, end-fits)
+add-result : tie.Need-add-result
+add-result c = search (needs, within)
 
-sub-lower : tie.Need-sub-lower Inv-loop μ-loop
-sub-lower c = search needs
-
-part-lower-start : tie.Need-part-lower-start Inv-loop μ-loop
-part-lower-start c = search needs
-
-part-lower-end : tie.Need-part-lower-end Inv-loop μ-loop
-part-lower-end c = search (needs, end-within)
-
-lower-requires : tie.Need-lower-requires Inv-loop μ-loop
-lower-requires c κs = search needs
-
-returns : tie.Need-returns Inv-loop μ-loop
-returns c = search (needs, while-left)
-
-loop-less : tie.Need-loop-less Inv-loop μ-loop
-loop-less c = search (needs, walk-falls)
-
-loop-again : tie.Need-loop-again Inv-loop μ-loop
-loop-again c = search (needs, end-within, while-passed)
-
-returns-2 : tie.Need-returns-2 Inv-loop μ-loop
-returns-2 c = search (needs, while-ended)
+returns : tie.Need-returns
+returns c = is-place _ _ _ _ _ (c .before .before .before .before .pre .1) (c .walk-past .ensures)
 
 pub place-spec : {M : Type 1} → statement M
-place-spec =
-    tie.close
-    (tie.spec
-    Inv-loop
-    μ-loop
-    loop-holds
-    sub-key-length
-    part-key-length-start
-    part-key-length-end
-    key-length-requires
-    add-end
-    sub-lower
-    part-lower-start
-    part-lower-end
-    lower-requires
-    returns
-    loop-less
-    loop-again
-    returns-2)
+place-spec = tie.close (tie.spec sub-walk-past part-walk-past-start part-walk-past-end walk-past-requires add-result returns)

@@ -21,21 +21,21 @@ spanned keys start n at len place run =
 place-requires : tie.Need-place-requires
 place-requires c κs = search needs
 
-sub-run : tie.Need-sub-run
-sub-run c = search needs
+sub-walk-past : tie.Need-sub-walk-past
+sub-walk-past c = search needs
 
-part-run-start : tie.Need-part-run-start
-part-run-start c = search needs
+part-walk-past-start : tie.Need-part-walk-past-start
+part-walk-past-start c = search needs
 
-part-run-end : tie.Need-part-run-end
-part-run-end c = search needs
+part-walk-past-end : tie.Need-part-walk-past-end
+part-walk-past-end c = search needs
 
-run-requires : tie.Need-run-requires
-run-requires c κs = search needs
+walk-past-requires : tie.Need-walk-past-requires
+walk-past-requires c κs = search needs
 
 returns : tie.Need-returns
 returns c = search (needs, spanned)
 
 pub span-from-spec : {M : Type 1} → statement M
 span-from-spec =
-    tie.close (tie.spec place-requires sub-run part-run-start part-run-end run-requires returns)
+    tie.close (tie.spec place-requires sub-walk-past part-walk-past-start part-walk-past-end walk-past-requires returns)

@@ -2,10 +2,9 @@
 
 use super::data::Labels;
 use super::messages::messages;
-use super::pairs::{differing_byte, first_difference, pairs, Workload};
+use super::rounds::{differing_byte, first_difference, rounds, Workload};
 use super::table::Row;
-use super::{floor, Plan, Stopped};
-use crate::compare::Engines;
+use super::{floor, Plan, Sides, Stopped};
 use crate::engine::Engine;
 use crate::random::Random;
 use crate::script::Rack;
@@ -41,8 +40,7 @@ impl Workload for Intake {
         }
     }
 
-    fn difference(&self, left: &[Buffers; 2]) -> Option<String> {
-        let [product, other] = left;
+    fn difference(&self, product: &Buffers, other: &Buffers) -> Option<String> {
         let answers = [product.answers.as_slice(), &other.answers];
         first_difference("answer to message", answers)
             .or_else(|| differing_byte(&product.rack, &other.rack))
@@ -51,20 +49,20 @@ impl Workload for Intake {
 
 /// Measures one set of labels with one set name.
 pub fn measure(
-    engines: Engines,
+    sides: Sides,
     plan: Plan,
     set: Labels,
     name: &[u8],
 ) -> Result<(Row, Answers), Stopped> {
     let intake = prepare(set, name, plan.messages);
-    let summary = pairs(engines, &intake, plan.intake_pairs)?;
-    let (answers, used) = watch(&intake, engines[0]);
+    let summary = rounds(sides, &intake, plan.intake_rounds)?;
+    let (answers, used) = watch(&intake, sides[0]);
     let row = Row {
         what: set.word(),
         bytes: name.len(),
         used: used.last().copied().unwrap_or(0),
         summary,
-        floor: floor::time(&used, plan.intake_pairs),
+        floor: floor::time(&used, plan.intake_rounds),
     };
     Ok((row, answers))
 }
@@ -148,7 +146,7 @@ mod tests {
         let with = |change: fn(&mut Buffers)| {
             let mut changed = sound.clone();
             change(&mut changed);
-            intake.difference(&[sound.clone(), changed])
+            intake.difference(&sound, &changed)
         };
         let first =
             |what: Option<String>| what.and_then(|what| what.split(':').next().map(str::to_string));

@@ -2,8 +2,8 @@
 
 use super::single::{time, LABELS};
 use super::starts::{start, NAME};
-use super::{Plan, Stopped};
-use crate::compare::Engines;
+use super::stats::Quartiles;
+use super::{names, Plan, Sides, Stopped, SIDES};
 use crate::script::{Command, Rack};
 use limits::{DOT_SIZE, LINE_FIXED, STORE_MAX};
 use ptl::{Controller, Entry};
@@ -15,7 +15,7 @@ const ROOM: usize = 4 << 10;
 const TEN: usize = 10;
 
 /// Times in seconds, product first.
-type Times = [f64; 2];
+type Times = [f64; SIDES];
 
 /// What reading the whole listing of a store takes.
 struct Whole {
@@ -27,16 +27,16 @@ struct Whole {
     judging: Times,
     /// Looking up the labels that pages start after.
     lookups: Times,
+    /// Of all pages: product to each other side.
+    ratios: [Quartiles; SIDES - 1],
 }
 
 impl Whole {
-    fn measure(engines: Engines, plan: Plan, label: usize) -> Result<Whole, Stopped> {
+    fn measure(sides: Sides, plan: Plan, label: usize) -> Result<Whole, Stopped> {
         let rack = start(label, STORE_MAX).rack;
         let starts = starts(&rack);
-        let minima = |commands: Vec<Command>| {
-            let summary = time(engines, plan, &rack, commands, 1);
-            summary.map(|summary| summary.minima)
-        };
+        let summary = |commands: Vec<Command>| time(sides, plan, &rack, commands, 1);
+        let minima = |commands| summary(commands).map(|summary| summary.minima);
         let (out, pages) = (rack.used(), starts.len());
         let judging = minima(vec![empty_remove(); pages])?;
         let page = |start: &Vec<u8>| Command::Page {
@@ -46,13 +46,15 @@ impl Whole {
         let lookup = |label: &Vec<u8>| Command::Lookup {
             label: label.clone(),
         };
+        let paged = summary(starts.iter().map(page).collect())?;
         Ok(Whole {
             label,
             pages,
             listing: minima(vec![Command::List { out }])?,
-            paged: minima(starts.iter().map(page).collect())?,
+            paged: paged.minima,
             judging: judging.map(|time| time / pages as f64),
             lookups: minima(starts[1..].iter().map(lookup).collect())?,
+            ratios: paged.ratios,
         })
     }
 
@@ -72,8 +74,12 @@ impl Whole {
         ];
         let times: String = times.map(|time| format!("{:>10.3}", time * 1e6)).concat();
         let ratio = pages / listing;
+        let product = side.checked_sub(1).map(|other| self.ratios[other]);
+        let product = product.map_or(String::new(), |ratios| {
+            format!("  {}", ratios.cell().trim_end())
+        });
         format!(
-            "{:>5} {:>6}  {name:<9}{times}{ratio:>8.2}",
+            "{:>5} {:>6}  {name:<9}{times}{ratio:>8.2}{product}",
             self.label, self.pages
         )
     }
@@ -83,16 +89,17 @@ impl Whole {
 const HEAD: &str = "
 A whole listing of 64 KiB in pages of 4 KiB, in us. Each call judges the store, which is timed by
 itself with a message that changes nothing. Finding is what it takes to find where the pages start,
-by lookups. The ratio is pages / listing, both without judging.
+by lookups. The ratio is pages / listing, both without judging. Product is the product's time for
+the pages, all of it, divided by that of the form, with quartiles.
                          all of it                     without judging
-label  pages  side        judging   listing     pages   listing     pages   finding   ratio";
+label  pages  side        judging   listing     pages   listing     pages   finding   ratio  product";
 
 /// Measures and writes the table of whole listings.
-pub fn whole_table(engines: Engines, plan: Plan, report: &mut dyn Write) -> Result<(), Stopped> {
+pub fn whole_table(sides: Sides, plan: Plan, report: &mut dyn Write) -> Result<(), Stopped> {
     writeln!(report, "{HEAD}")?;
     for label in LABELS {
-        let whole = Whole::measure(engines, plan, label)?;
-        for (side, name) in ["product", "baseline"].into_iter().enumerate() {
+        let whole = Whole::measure(sides, plan, label)?;
+        for (side, name) in names(sides).into_iter().enumerate() {
             writeln!(report, "{}", whole.line(side, name))?;
         }
         report.flush()?;
@@ -149,13 +156,13 @@ fn length(entry: &Entry) -> usize {
 #[cfg(test)]
 mod tests {
     use super::*;
-    use crate::engine::{Baseline, Engine};
+    use crate::engine::{Engine, PLAIN};
     use crate::script::Reply;
 
     /// What a page gives: its bytes, the number of its labels, whether more follow.
     fn read(rack: &mut Rack, start: Vec<u8>, out: usize) -> (Vec<u8>, usize, bool) {
         let mut bytes = vec![0; out];
-        let reply = Baseline.run(rack, &Command::Page { start, out }, &mut bytes);
+        let reply = PLAIN.run(rack, &Command::Page { start, out }, &mut bytes);
         let Reply::Paged(paged) = reply else {
             panic!("{reply:?}");
         };

@@ -1,12 +1,11 @@
 //! One call at a time: on stores of five sizes, with labels of two lengths.
 
 use super::pages::page_of_ten;
-use super::pairs::{differing_byte, first_difference, pairs, Workload};
+use super::rounds::{differing_byte, first_difference, rounds, Workload};
 use super::starts::{start, Start, CONTEXT};
 use super::stats::Summary;
 use super::table::Row;
-use super::{floor, Plan, Stopped};
-use crate::compare::Engines;
+use super::{floor, Plan, Sides, Stopped};
 use crate::engine::Engine;
 use crate::script::{Command, Rack, Reply, Worded};
 use limits::{LABEL_MAX, MESSAGE_MAX, STORE_MAX};
@@ -126,8 +125,7 @@ impl Workload for Calls {
         }
     }
 
-    fn difference(&self, left: &[Vec<Buffers>; 2]) -> Option<String> {
-        let [product, other] = left;
+    fn difference(&self, product: &Vec<Buffers>, other: &Vec<Buffers>) -> Option<String> {
         let mut copies = product.iter().zip(other);
         copies.find_map(|(product, other)| {
             let mut commands = self.commands.iter().enumerate();
@@ -141,7 +139,7 @@ impl Workload for Calls {
 
 /// Times calls one after another on so many copies of a controller: of one copy, all calls.
 pub fn time(
-    engines: Engines,
+    sides: Sides,
     plan: Plan,
     rack: &Rack,
     commands: Vec<Command>,
@@ -154,13 +152,13 @@ pub fn time(
         replies: vec![Reply::Answered(u8::MAX); commands.len()],
     };
     let start = vec![buffers; copies];
-    let summary = pairs(engines, &Calls { commands, start }, plan.single_pairs)?;
+    let summary = rounds(sides, &Calls { commands, start }, plan.single_rounds)?;
     Ok(summary.share(copies))
 }
 
 /// Measures one call on one size of store with labels of one length.
 pub fn measure(
-    engines: Engines,
+    sides: Sides,
     plan: Plan,
     call: Call,
     label: usize,
@@ -170,8 +168,8 @@ pub fn measure(
     let used = start.rack.used();
     let copies = copies(used);
     let command = call.command(&start);
-    let summary = time(engines, plan, &start.rack, vec![command], copies)?;
-    let floor = floor::time(&vec![used; copies], plan.single_pairs);
+    let summary = time(sides, plan, &start.rack, vec![command], copies)?;
+    let floor = floor::time(&vec![used; copies], plan.single_rounds);
     Ok(Row {
         what: call.words(),
         bytes: label,

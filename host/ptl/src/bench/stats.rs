@@ -1,4 +1,6 @@
-//! The arithmetic of paired runs: quartiles of the ratios, and minima.
+//! The arithmetic of rounds: quartiles of the ratios, and minima.
+
+use super::SIDES;
 
 /// The middle of some numbers and the middles of their halves.
 #[derive(Clone, Copy, PartialEq, Debug)]
@@ -19,6 +21,12 @@ impl Quartiles {
             high: quantile(&sorted, 0.75),
         }
     }
+
+    /// How tables show them.
+    pub fn cell(self) -> String {
+        let Quartiles { low, median, high } = self;
+        format!("{median:>7.2}  {low:>5.2}-{high:<5.2}")
+    }
 }
 
 /// The number at this share of the way through ascending numbers, on the line between its two
@@ -33,24 +41,25 @@ pub fn quantile(sorted: &[f64], share: f64) -> f64 {
     sorted[below] + (sorted[above] - sorted[below]) * (place - below as f64)
 }
 
-/// What pairs of times say, product first.
+/// What the times of rounds say, product first.
 #[derive(Clone, Copy, PartialEq, Debug)]
 pub struct Summary {
-    /// Of the ratios product / baseline, pair by pair.
-    pub ratios: Quartiles,
-    /// The shortest time of either side.
-    pub minima: [f64; 2],
+    /// Of the ratios of the product to each other side, round by round.
+    pub ratios: [Quartiles; SIDES - 1],
+    /// The shortest time of each side.
+    pub minima: [f64; SIDES],
 }
 
 impl Summary {
-    pub fn of(times: &[[f64; 2]]) -> Summary {
+    pub fn of(times: &[[f64; SIDES]]) -> Summary {
+        let ratios = |side: usize| Quartiles::of(times.iter().map(|time| time[0] / time[side]));
         let minimum = |side: usize| {
-            let times = times.iter().map(|pair| pair[side]);
+            let times = times.iter().map(|time| time[side]);
             times.fold(f64::INFINITY, f64::min)
         };
         Summary {
-            ratios: Quartiles::of(times.iter().map(|[product, other]| product / other)),
-            minima: [minimum(0), minimum(1)],
+            ratios: [1, 2].map(ratios),
+            minima: [0, 1, 2].map(minimum),
         }
     }
 
@@ -58,9 +67,5 @@ impl Summary {
     pub fn share(self, parts: usize) -> Summary {
         let minima = self.minima.map(|time| time / parts as f64);
         Summary { minima, ..self }
-    }
-
-    pub fn ratio_of_minima(self) -> f64 {
-        self.minima[0] / self.minima[1]
     }
 }

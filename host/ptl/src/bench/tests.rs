@@ -4,9 +4,8 @@ use super::data::{Labels, NAMES, SETS};
 use super::messages::messages;
 use super::stats::{quantile, Quartiles, Summary};
 use super::table::{per_byte, Row};
-use super::{bench, Plan};
-use crate::compare::Engines;
-use crate::engine::{Baseline, Fault, Faulty, Product, Second};
+use super::{bench, Plan, Sides};
+use crate::engine::{Engine, Fault, Faulty, Product, FASTEST, PLAIN, TUNED};
 use crate::random::Random;
 use limits::{LABEL_MAX, NAME_MAX};
 use std::collections::BTreeSet;
@@ -14,8 +13,8 @@ use std::collections::BTreeSet;
 /// As little as there can be.
 const LEAST: Plan = Plan {
     messages: 150,
-    intake_pairs: 1,
-    single_pairs: 1,
+    intake_rounds: 1,
+    single_rounds: 1,
 };
 
 fn quartiles(numbers: &[f64]) -> (f64, f64, f64) {
@@ -48,16 +47,15 @@ fn the_ends_of_a_quantile() {
 }
 
 #[test]
-fn ratios_are_taken_pair_by_pair() {
-    // The second pair was disturbed: both of its times are long, its ratio is as the others.
-    let summary = Summary::of(&[[2.0, 4.0], [30.0, 60.0], [3.0, 6.0]]);
-    assert_eq!(summary.ratios.median, 0.5);
-    assert_eq!((summary.ratios.low, summary.ratios.high), (0.5, 0.5));
-    assert_eq!(summary.minima, [2.0, 4.0]);
-    assert_eq!(summary.share(2).minima, [1.0, 2.0]);
-    let crossed = Summary::of(&[[1.0, 2.0], [4.0, 1.0], [3.0, 3.0]]);
-    assert_eq!(crossed.ratios.median, 1.0);
-    assert_eq!(crossed.ratio_of_minima(), 1.0);
+fn ratios_are_taken_round_by_round() {
+    // The second round was disturbed: all of its times are long, its ratios are as the others.
+    let summary = Summary::of(&[[2.0, 4.0, 1.0], [30.0, 60.0, 15.0], [3.0, 6.0, 1.5]]);
+    let same = |ratio| Quartiles::of([ratio].into_iter());
+    assert_eq!(summary.ratios, [same(0.5), same(2.0)]);
+    assert_eq!(summary.minima, [2.0, 4.0, 1.0]);
+    assert_eq!(summary.share(2).minima, [1.0, 2.0, 0.5]);
+    let crossed = Summary::of(&[[1.0, 2.0, 1.0], [4.0, 1.0, 2.0], [3.0, 3.0, 1.0]]);
+    assert_eq!(crossed.ratios.map(|ratios| ratios.median), [1.0, 2.0]);
 }
 
 #[test]
@@ -66,12 +64,13 @@ fn growth_is_above_the_empty_store() {
         what: "listing",
         bytes: 2,
         used,
-        summary: Summary::of(&[[seconds, 2.0 * seconds]]),
+        summary: Summary::of(&[[seconds, 2.0 * seconds, 3.0 * seconds]]),
         floor: 0.0,
     };
     let (empty, full) = (row(0, 1e-6), row(1000, 3e-6));
     assert!((per_byte(&empty, &full, 0) - 2.0).abs() < 1e-9);
     assert!((per_byte(&empty, &full, 1) - 4.0).abs() < 1e-9);
+    assert!((per_byte(&empty, &full, 2) - 6.0).abs() < 1e-9);
 }
 
 #[test]
@@ -99,21 +98,28 @@ fn messages_are_the_same_every_time() {
 }
 
 /// What a bench says, and whether it passed.
-fn said(engines: Engines) -> (bool, String) {
+fn said(sides: Sides) -> (bool, String) {
     let mut report = Vec::new();
-    let passed = bench(engines, LEAST, &mut report).expect("writes memory");
+    let passed = bench(sides, LEAST, &mut report).expect("writes memory");
     (passed, String::from_utf8(report).expect("ASCII"))
 }
 
 #[test]
 fn equal_engines_pass() {
-    let (passed, report) = said([&Product, &Baseline]);
+    for form in [TUNED as &dyn Engine, FASTEST] {
+        passes(form);
+    }
+}
+
+/// The tables with this form beside the plain one.
+fn passes(form: &dyn Engine) {
+    let (passed, report) = said([&Product, PLAIN, form]);
     assert!(passed, "{report}");
     assert!(report.ends_with("Answers and bytes were equal in every run.\n"));
-    // Tables of 8, of 50 and of 4 lines, two lines for each call and label length, and two for
-    // each whole listing in pages.
+    // Tables of 8, of 8 again, of 50 and of 4 lines, three lines for each call and label length,
+    // and three for each whole listing in pages.
     let starting = |words: &str| report.lines().filter(|l| l.starts_with(words)).count();
-    assert_eq!(["short ", "mixed ", "bins ", "deep "].map(starting), [2; 4]);
+    assert_eq!(["short ", "mixed ", "bins ", "deep "].map(starting), [4; 4]);
     let calls = [
         "own add ",
         "own remove ",
@@ -121,9 +127,14 @@ fn equal_engines_pass() {
         "lookup ",
         "compaction ",
     ];
-    assert_eq!(calls.map(starting), [14; 5]);
+    assert_eq!(calls.map(starting), [16; 5]);
     assert_eq!(["page front ", "page mid "].map(starting), [2; 2]);
-    assert_eq!(["    2     ", "   32     "].map(starting), [2; 2]);
+    assert_eq!(["    2     ", "   32     "].map(starting), [3; 2]);
+    let name = form.name();
+    let named =
+        [format!(" /{name} "), format!("  {name} ")].map(|name| report.matches(&name).count());
+    assert_eq!(named, [3, 14], "{report}");
+    assert!(report.lines().all(|line| line.len() <= 120), "{report}");
 }
 
 #[test]
@@ -133,8 +144,17 @@ fn a_difference_is_found() {
         (Fault::ListingRunsOn, "difference: list: output byte "),
     ];
     for (fault, what) in faults {
-        let (passed, report) = said([&Faulty::new(&Second, fault), &Baseline]);
-        assert!(!passed && report.contains(what), "{report}");
-        assert!(!report.contains("were equal"), "{report}");
+        let faulty = Faulty::new(PLAIN, fault);
+        let sides: [(Sides, &str); 3] = [
+            ([&faulty, PLAIN, TUNED], "(plain form)"),
+            ([&Product, &faulty, TUNED], "(plain form)"),
+            ([&Product, PLAIN, &faulty], "(faulty form)"),
+        ];
+        for (sides, form) in sides {
+            let (passed, report) = said(sides);
+            assert!(!passed && report.contains(what), "{report}");
+            assert!(report.ends_with(&format!("{form}\n")), "{report}");
+            assert!(!report.contains("were equal"), "{report}");
+        }
     }
 }

@@ -7,7 +7,7 @@ use super::tally::Tally;
 use super::trial::Act;
 use super::{compare, verdict, Engines, FULL_RUN};
 use crate::console::console;
-use crate::engine::{Baseline, Engine, Fault, Faulty, Second};
+use crate::engine::{Engine, Fault, Faulty, Second, FASTEST, PLAIN, TUNED};
 use crate::script::{line_to, parse, Command, Line, Reply};
 use limits::TOMBSTONE_DOTS_MAX;
 use ptl::calls::Paged;
@@ -70,7 +70,9 @@ fn the_report_names_what_the_product_is_compared_with() {
     let faulty = Faulty::new(&Second, Fault::DeadLabelListed);
     for (other, line) in [
         (&Second as &dyn Engine, "\nreference: lookup "),
-        (&Baseline, "\nbaseline:  lookup "),
+        (PLAIN, "\nbaseline:  lookup "),
+        (TUNED, "\ntuned:     lookup "),
+        (FASTEST, "\nfastest:   lookup "),
     ] {
         let report = found([&faulty, other]);
         assert!(report.contains("\nproduct:   lookup "), "{report}");

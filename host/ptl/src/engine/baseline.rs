@@ -1,14 +1,24 @@
-//! The baseline, the calls in ordinary Rust: it works on the product's own blocks.
+//! The baseline in its forms, the calls in Rust: it works on the product's own blocks.
 
 use super::Engine;
 use crate::script::{Command, Rack, Reply};
+use baseline::{Calls, Fastest, Plain, Tuned};
 use ptl::calls::{KeyRead, Listed, Looked, MessageRead, Paged, Span, Wrote};
+use std::marker::PhantomData;
 
-pub struct Baseline;
+/// A form of the baseline.
+pub struct Baseline<F>(PhantomData<F>);
 
-impl Engine for Baseline {
+/// As an ordinary program has the calls.
+pub const PLAIN: &Baseline<Plain> = &Baseline(PhantomData);
+/// As a programmer writes them who counts cycles.
+pub const TUNED: &Baseline<Tuned> = &Baseline(PhantomData);
+/// The fastest form that we know of.
+pub const FASTEST: &Baseline<Fastest> = &Baseline(PhantomData);
+
+impl<F: Calls> Engine for Baseline<F> {
     fn name(&self) -> &'static str {
-        "baseline"
+        F::NAME
     }
 
     fn run(&self, rack: &mut Rack, command: &Command, out: &mut [u8]) -> Reply {
@@ -18,16 +28,14 @@ impl Engine for Baseline {
                 Reply::Answered(baseline::set_up(*actor, name, block))
             }
             Command::Add { label, context, .. } => {
-                wrote(baseline::own_add(block, store, label, context, out))
+                wrote(F::own_add(block, store, label, context, out))
             }
-            Command::Remove { context, .. } => {
-                wrote(baseline::own_remove(block, store, context, out))
-            }
+            Command::Remove { context, .. } => wrote(F::own_remove(block, store, context, out)),
             Command::Take { message } => Reply::Answered(self.take_in(rack, message)),
-            Command::List { .. } => listed(baseline::list(block, store, out)),
-            Command::Page { start, .. } => paged(baseline::page(block, store, start, out)),
-            Command::Lookup { label } => looked(baseline::lookup(block, store, label)),
-            Command::Compact => Reply::Answered(baseline::compact(block, store)),
+            Command::List { .. } => listed(F::list(block, store, out)),
+            Command::Page { start, .. } => paged(F::page(block, store, start, out)),
+            Command::Lookup { label } => looked(F::lookup(block, store, label)),
+            Command::Compact => Reply::Answered(F::compact(block, store)),
             Command::Key { key, .. } => wrote(key.written_by(baseline::write_key, out)),
             Command::ReadKey { bytes } => key(baseline::read_key(bytes)),
             Command::ReadMessage { bytes } => message(baseline::read_message(bytes)),
@@ -35,7 +43,7 @@ impl Engine for Baseline {
     }
 
     fn take_in(&self, rack: &mut Rack, message: &[u8]) -> u8 {
-        baseline::take_in(rack.state.block_mut(), &mut rack.store, message)
+        F::take_in(rack.state.block_mut(), &mut rack.store, message)
     }
 }
 

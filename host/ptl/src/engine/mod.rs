@@ -1,4 +1,5 @@
-//! The calls as something that can be run: by the product, by the reference or by the baseline.
+//! The calls as something that can be run: by the product, by the reference or by the
+//! baseline in one of its forms.
 
 mod baseline;
 #[cfg(test)]
@@ -6,7 +7,7 @@ mod faulty;
 mod product;
 mod second;
 
-pub use self::baseline::Baseline;
+pub use self::baseline::{FASTEST, PLAIN, TUNED};
 #[cfg(test)]
 pub use faulty::{Fault, Faulty};
 pub use product::Product;

@@ -1,20 +1,19 @@
--- The invariant: every key before `at` begins with `start`, so the run goes on in the rest. The measure is what is left of the keys.
+-- The invariant: every key before `at` is passed, so the walk goes on in the rest. The measure is what is left of the keys.
 use Prim.Native.Nat.{_+_, _-_, _≤_}
 use mathlib.Core.Path.{_≡_}
 use lib.ListN.{length, drop}
-use Rattle.wire.specs.Bytes.{startsWith}
 use Rattle.store.specs.Cut.{keysOf}
-use Rattle.store.specs.Place.{lengthWhile}
+use Rattle.store.specs.Place.{lengthWhile, passing}
 use Rattle.store.proofs.Walk.{end-within, end-fits, walk-falls, while-left, while-passed, while-ended}
 use borrow.Author.Needs.{needs}
-use Rattle.store.proofs.run.Statement.{statement}
-use Rattle.store.proofs.run.Tie as tie
+use Rattle.store.proofs.walk_past.Statement.{statement}
+use Rattle.store.proofs.walk_past.Tie as tie
 
 abbrev Inv-loop : tie.InvT-loop
-Inv-loop n keys start at₀ at = (at ≤ length keys) × (lengthWhile (startsWith start) (keysOf n keys) ≡ at + lengthWhile (startsWith start) (keysOf n (drop at keys)))
+Inv-loop n keys key run at₀ at = (at ≤ length keys) × (lengthWhile (passing run key) (keysOf n keys) ≡ at + lengthWhile (passing run key) (keysOf n (drop at keys)))
 
 abbrev μ-loop : tie.MeasureT-loop
-μ-loop n keys start at₀ at = length keys - at
+μ-loop n keys key run at₀ at = length keys - at
 
 loop-holds : tie.Need-loop-holds Inv-loop μ-loop
 loop-holds c = search needs
@@ -34,17 +33,17 @@ key-length-requires c κs = search needs
 add-end : tie.Need-add-end Inv-loop μ-loop
 add-end c = search (needs, end-fits)
 
-sub-starts-with : tie.Need-sub-starts-with Inv-loop μ-loop
-sub-starts-with c = search needs
+sub-passes : tie.Need-sub-passes Inv-loop μ-loop
+sub-passes c = search needs
 
-part-starts-with-start : tie.Need-part-starts-with-start Inv-loop μ-loop
-part-starts-with-start c = search needs
+part-passes-start : tie.Need-part-passes-start Inv-loop μ-loop
+part-passes-start c = search needs
 
-part-starts-with-end : tie.Need-part-starts-with-end Inv-loop μ-loop
-part-starts-with-end c = search (needs, end-within)
+part-passes-end : tie.Need-part-passes-end Inv-loop μ-loop
+part-passes-end c = search (needs, end-within)
 
-starts-with-requires : tie.Need-starts-with-requires Inv-loop μ-loop
-starts-with-requires c κs = search needs
+passes-requires : tie.Need-passes-requires Inv-loop μ-loop
+passes-requires c κs = search needs
 
 returns : tie.Need-returns Inv-loop μ-loop
 returns c = search (needs, while-left)
@@ -58,8 +57,8 @@ loop-again c = search (needs, end-within, while-passed)
 returns-2 : tie.Need-returns-2 Inv-loop μ-loop
 returns-2 c = search (needs, while-ended)
 
-pub run-spec : {M : Type 1} → statement M
-run-spec =
+pub walk-past-spec : {M : Type 1} → statement M
+walk-past-spec =
     tie.close
     (tie.spec
     Inv-loop
@@ -70,10 +69,10 @@ run-spec =
     part-key-length-end
     key-length-requires
     add-end
-    sub-starts-with
-    part-starts-with-start
-    part-starts-with-end
-    starts-with-requires
+    sub-passes
+    part-passes-start
+    part-passes-end
+    passes-requires
     returns
     loop-less
     loop-again

@@ -1,0 +1,2 @@
+-- Marks: which bytes of a word are 0.
+pub mod Marks
