@@ -48,7 +48,7 @@ uint32_t ptl_version(void);
 #define PTL_ACTOR_MAX 16
 #define PTL_NAME_MAX 16
 #define PTL_LABEL_MAX 32
-#define PTL_CONTEXT_DOTS_MAX 16
+#define PTL_CONTEXT_DOTS_MAX 64
 #define PTL_TOMBSTONE_DOTS_MAX 128
 #define PTL_STORE_MAX 65536
 #define PTL_WINDOW 64
