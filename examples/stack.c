@@ -215,15 +215,18 @@ static unsigned adds(void)
     }
 }
 
-/* Removes at box 0, most dots at a time, until its tombstone is full; each message goes to box 1. */
+/* Removes at box 0 until its tombstone is full, most dots at a time, then as many as still fit; each message goes to box 1. */
 static void removes(unsigned made)
 {
-    for (unsigned last = made; last > PTL_CONTEXT_DOTS_MAX; last -= PTL_CONTEXT_DOTS_MAX) {
-        dots_up_to(1, last, PTL_CONTEXT_DOTS_MAX);
-        if (measure(0, own_remove) != PTL_DONE) {
-            return;
+    unsigned last = made, dots = PTL_CONTEXT_DOTS_MAX;
+    while (dots > 0 && dots < last) {
+        dots_up_to(1, last, dots);
+        if (measure(0, own_remove) == PTL_DONE) {
+            measure(1, take_in);
+            last -= dots;
+        } else {
+            dots /= 2;
         }
-        measure(1, take_in);
     }
 }
 

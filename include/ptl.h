@@ -35,7 +35,7 @@ typedef char ptl_size_t_has_8_bytes[sizeof(size_t) == 8 ? 1 : -1];
 
 /* The version of this interface: 100 * major + minor. A higher minor number adds functions and macros and keeps all that was there, the
    block too. Under another major number a function, a limit, a format or the block may be another: see docs/INTEGRATION.md, "Versions". */
-#define PTL_VERSION 101
+#define PTL_VERSION 200
 
 /* The version that the library has: PTL_VERSION of the header that goes with it. */
 uint32_t ptl_version(void);
@@ -48,7 +48,7 @@ uint32_t ptl_version(void);
 #define PTL_ACTOR_MAX 16
 #define PTL_NAME_MAX 16
 #define PTL_LABEL_MAX 32
-#define PTL_CONTEXT_DOTS_MAX 16
+#define PTL_CONTEXT_DOTS_MAX 64
 #define PTL_TOMBSTONE_DOTS_MAX 128
 #define PTL_STORE_MAX 65536
 #define PTL_WINDOW 64

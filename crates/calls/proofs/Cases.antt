@@ -61,7 +61,7 @@ pub line-cases : LineCases
 unfolding computing
 line-cases = record {
   label-32-33 = refl;
-  context-16-17 = refl;
+  context-64-65 = refl;
   version-first = refl;
   own-dot = refl;
   no-room = refl;

@@ -1,7 +1,7 @@
 -- The other cases of document 01's "Both sides of the line", its slips that no settled case shows, what calls leave past what they write, and pages.
 use Prim.Native.Nat.{ℕ}
 use mathlib.Core.Bool.{Bool, true, false}
-use mathlib.Core.List.{[], _∷_, _++_, map}
+use mathlib.Core.List.{List, [], _∷_, _++_, map}
 use mathlib.Core.Path.{_≡_}
 use lib.ListN.{replicate}
 use Rattle.wire.specs.Bytes.{Bytes}
@@ -13,14 +13,15 @@ use Rattle.dots.specs.Entries.{entry}
 use Rattle.dots.specs.Message.{add, remove}
 use Rattle.keys.specs.Entry.{entryKey}
 use Rattle.keys.specs.Cases.{R1, B7, B70, B8}
-use Rattle.messages.specs.Message.{messageBytes}
+use Rattle.messages.specs.Message.{messageBytes, messageMost}
 use Rattle.messages.specs.Cases.{a1}
 use Rattle.calls.specs.Calls.{Looked, moreFollow, lookupResult}
 use Rattle.calls.specs.Sequence.{Input, addInput, removeInput, messageInput, listInput, pageInput, compactInput, Held, started, resultOf, output, run}
 use Rattle.calls.specs.Cases.{dot, dotsFrom, adds, removes, takesIn, compacts, room, row, onlyB7, answersOf, shown}
 
+-- room for the longest message
 abbrev wide : Bytes
-wide = replicate 256 0
+wide = replicate messageMost 0
 
 abbrev fresh : Held
 fresh = started 1 R1
@@ -28,9 +29,11 @@ fresh = started 1 R1
 abbrev addsLabel : Bytes → Context → Input
 addsLabel label context = addInput label (dotsBytes context) wide wide
 
--- an own remove of k dots of actor 2
-abbrev removal : ℕ → Input
-removal k = removeInput (dotsBytes (dotsFrom 2 1 k)) wide wide
+-- own add, own remove, and both kinds of message taken in, with a context of k dots of actor 2
+abbrev removing : ℕ → List Input
+removing k =
+    let ds = dotsFrom 2 1 k in
+    addsLabel B7 ds ∷ removeInput (dotsBytes ds) wide wide ∷ takesIn (add B7 (dot 3 1) ds) ∷ takesIn (remove ds) ∷ []
 
 -- a controller that holds B7 twice, once dead
 abbrev added : Held
@@ -56,8 +59,8 @@ paged h (start, n) =
 pub record LineCases : Type 0 where
   -- "Label of 32 bytes taken, 33: 5."
   pub label-32-33 : answersOf fresh (addsLabel (replicate 32 65) [] ∷ addsLabel (replicate 33 65) [] ∷ []) ≡ 0 ∷ 5 ∷ []
-  -- "Context of 16 taken, 17: 6."; and a context of one byte
-  pub context-16-17 : answersOf fresh (removal 16 ∷ removal 17 ∷ removeInput (1 ∷ []) wide wide ∷ []) ≡ 0 ∷ 6 ∷ 6 ∷ []
+  -- "64 taken, 65 refused with 6"; and a context of one byte
+  pub context-64-65 : answersOf fresh (removing 64 ++ (removing 65 ++ (removeInput (1 ∷ []) wide wide ∷ []))) ≡ 0 ∷ 0 ∷ 0 ∷ 0 ∷ 6 ∷ 6 ∷ 6 ∷ 6 ∷ 6 ∷ []
   -- "Version 2 with unknown kind: 3."
   pub version-first : answersOf fresh (messageInput (0x50 ∷ 0x54 ∷ 0x4C ∷ 0 ∷ 2 ∷ 0x7A ∷ []) wide ∷ []) ≡ 3 ∷ []
   -- "Own add at own base 1 with context {(1,2)}: 6, with {(1,3)}: 8."

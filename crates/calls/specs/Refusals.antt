@@ -32,7 +32,7 @@ badLabel label = not (labelOk label)
 abbrev pub badStart : Label → Bool
 badStart start = not (eqb (length start) 0 || labelOk start)
 
--- 6: "a context breaks its rule": whole dots, "0 to 16 dots, strictly ascending", each dot within its rule
+-- 6: "a context breaks its rule": whole dots, at most contextMost, "strictly ascending", each dot within its rule
 abbrev pub badContext : Bytes → Bool
 badContext context = not (wholeDots context && contextOk (dotsOf context))
 

@@ -31,7 +31,7 @@ pub fn ascending_dots(dots: &[u8]) -> bool
     ok
 }
 
-// Whether the dots are a context: at most 16, ascending.
+// Whether the dots are a context: at most CONTEXT_MOST, ascending.
 pub fn context_ok(dots: &[u8]) -> bool
     ensures { λ r. ⌜ r ≡ contextOk (dotsOf (before dots)) ⌝ }
 {

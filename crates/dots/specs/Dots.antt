@@ -54,12 +54,12 @@ dotOk d = actorOk (d .actor .number) && counterOk (d .counter .number)
 unfoldable pub ascendingDots : List Dot → Bool
 ascendingDots ds = all dotOk ds && ascends compareDots ds
 
--- "Context: 0 to 16 dots, strictly ascending"
+-- "Context: 0 to 16 dots, strictly ascending"; "Raise contexts to 64 dots"
 abbrev pub Context : Type 0
 Context = List Dot
 
 abbrev pub contextMost : ℕ
-contextMost = 16
+contextMost = 64
 
 abbrev pub contextOk : Context → Bool
 contextOk ds = leb (length ds) contextMost && ascendingDots ds

@@ -20,7 +20,7 @@ pub const NAME_MOST: usize = 16;
 
 pub const LABEL_MOST: usize = 32;
 // Dots of a context and of the tombstone, at most; bytes of a dot.
-pub const CONTEXT_MOST: usize = 16;
+pub const CONTEXT_MOST: usize = 64;
 
 pub const TOMBSTONE_MOST: usize = 128;
 

@@ -55,7 +55,7 @@ Answers [] = Unit {0}
 Answers (c ∷ cs) = (numberOf (readAnswer (c .0)) ≡ c .1) × Answers cs
 
 -- "PTL" and one byte; version 2 with no more bytes, and with unknown kind; version 1 with no more bytes; a byte left over;
--- a label of 33 bytes; a context of 17 dots; an add whose context has its own dot
+-- a label of 33 bytes; a context of 65 dots; an add whose context has its own dot
 abbrev pub refusedCases : List (Bytes × ℕ)
 refusedCases =
     (0x50 ∷ 0x54 ∷ 0x4C ∷ 0x00 ∷ [], 2)
@@ -64,13 +64,13 @@ refusedCases =
     ∷ (0x50 ∷ 0x54 ∷ 0x4C ∷ 0x00 ∷ 0x01 ∷ [], 4)
     ∷ (0x50 ∷ 0x54 ∷ 0x4C ∷ 0x00 ∷ 0x01 ∷ 0x72 ∷ 0x02 ∷ 0x52 ∷ 0x31 ∷ 0x00 ∷ 0x00 ∷ [], 4)
     ∷ (messageBytes setR1 (add (replicate 33 0x42) (dotOf (actorOf 1) 1) []), 5)
-    ∷ (messageBytes setR1 (remove (consecutive (actorOf 3) 1 17)), 6)
+    ∷ (messageBytes setR1 (remove (consecutive (actorOf 3) 1 65)), 6)
     ∷ (messageBytes setR1 (add labelB7 (dotOf (actorOf 3) 2) (dotOf (actorOf 3) 2 ∷ [])), 6)
     ∷ []
 
--- all of them, and "The longest valid message has 210 bytes"
+-- all of them, and "The longest message becomes 642 bytes"
 pub record MessageCases : Type 0 where
   pub M1 : Holds m1
   pub A1 : Holds a1
   pub refused : Answers refusedCases
-  pub longest : messageMost ≡ 210
+  pub longest : messageMost ≡ 642

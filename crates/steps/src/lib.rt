@@ -82,8 +82,11 @@ fn joins_tombstone(words: &clock::Words, tombstone: &[u8], dot: dots::Dot) -> bo
     requires { ⌜ ascendingDots (dotsOf (now tombstone)) ≡ true ⌝ }
     ensures { λ r. ⌜ r ≡ joinsTombstone (before words) (dotsOf (before tombstone)) dot ⌝ }
 {
-    let seen = clock::sees(words, dot);
-    seen & !contexts::holds_dot(tombstone, dot)
+    let known = clock::sees(words, dot);
+    if known {
+        return !contexts::holds_dot(tombstone, dot);
+    }
+    false
 }
 
 // 1 for true, 0 for false.

@@ -2,8 +2,9 @@
 
 use baseline::*;
 use limits::{
-    ACTOR_MAX, DOT_SIZE, KEY_MAX, NUMBER_SIZE, ROW_SIZE, STATE_ACTOR_AT, STATE_CLOCK_AT,
-    STATE_COUNT_AT, STATE_NAME_AT, STATE_SIZE, STATE_TOMBSTONE_AT, STATE_USED_AT, STORE_MAX,
+    ACTOR_MAX, DOT_SIZE, KEY_MAX, MESSAGE_MAX, NUMBER_SIZE, ROW_SIZE, STATE_ACTOR_AT,
+    STATE_CLOCK_AT, STATE_COUNT_AT, STATE_NAME_AT, STATE_SIZE, STATE_TOMBSTONE_AT, STATE_USED_AT,
+    STORE_MAX,
 };
 use std::fmt::Debug;
 use std::marker::PhantomData;
@@ -77,7 +78,7 @@ impl<F: Form> Rack<F> {
 
     /// Own add; its answer and message.
     fn add(&mut self, label: &[u8], context: &[(u8, u64)]) -> (u8, Vec<u8>) {
-        let (before, mut out) = (self.clone(), vec![FILL; 250]);
+        let (before, mut out) = (self.clone(), vec![FILL; MESSAGE_MAX + 40]);
         let wrote = F::own_add(
             &mut self.block,
             &mut self.store,
@@ -90,7 +91,7 @@ impl<F: Form> Rack<F> {
 
     /// Own remove; its answer and message.
     fn remove(&mut self, context: &[(u8, u64)]) -> (u8, Vec<u8>) {
-        let (before, mut out) = (self.clone(), vec![FILL; 250]);
+        let (before, mut out) = (self.clone(), vec![FILL; MESSAGE_MAX + 40]);
         let wrote = F::own_remove(&mut self.block, &self.store, &dots(context), &mut out);
         self.written(&before, wrote, out)
     }
@@ -356,9 +357,9 @@ fn labels_and_contexts_of_either_side<F: Form>() {
     assert_eq!(one.add(&[b'x'; 33], &[]).0, 5);
     assert_eq!(one.lookup(&[b'x'; 33]).answer, 5);
     assert_eq!(one.take(&add_bytes(&[b'x'; 33], (2, 1), &[])), 5);
-    assert_eq!(one.remove(&dots_of(2, 1..=17)).0, 6);
-    assert_eq!(one.add(B7, &dots_of(2, 1..=16)).0, 0);
-    assert_eq!(one.row(2), (16, 0));
+    assert_eq!(one.remove(&dots_of(2, 1..=65)).0, 6);
+    assert_eq!(one.add(B7, &dots_of(2, 1..=64)).0, 0);
+    assert_eq!(one.row(2), (64, 0));
 }
 
 fn messages_that_are_none<F: Form>() {
@@ -473,8 +474,8 @@ fn a_tombstone_that_is_full<F: Form>() {
     for _ in 0..129 {
         assert_eq!(one.add(B7, &[]).0, 0);
     }
-    for first in (1..=113).step_by(16) {
-        assert_eq!(one.remove(&dots_of(1, first..=first + 15)).0, 0);
+    for first in [1, 65] {
+        assert_eq!(one.remove(&dots_of(1, first..=first + 63)).0, 0);
     }
     let full = one.clone();
     assert_eq!(one.remove(&[(1, 129)]).0, 11);

@@ -2,9 +2,9 @@
 
 use baseline::*;
 use limits::{
-    ACTORS, ACTOR_MAX, DOT_SIZE, KEY_MAX, LABEL_MAX, MESSAGE_MAX, NAME_MAX, NUMBER_SIZE, ROW_SIZE,
-    STATE_CLOCK_AT, STATE_COUNT_AT, STATE_SIZE, STATE_TOMBSTONE_AT, STATE_USED_AT,
-    TOMBSTONE_DOTS_MAX, WINDOW,
+    ACTORS, ACTOR_MAX, CONTEXT_DOTS_MAX, DOT_SIZE, KEY_MAX, LABEL_MAX, MESSAGE_MAX, NAME_MAX,
+    NUMBER_SIZE, ROW_SIZE, STATE_CLOCK_AT, STATE_COUNT_AT, STATE_SIZE, STATE_TOMBSTONE_AT,
+    STATE_USED_AT, TOMBSTONE_DOTS_MAX, WINDOW,
 };
 use std::collections::BTreeSet;
 
@@ -168,6 +168,8 @@ fn labels(random: &mut Random, number: usize) -> Vec<Vec<u8>> {
 struct Made {
     rack: Rack,
     name: Vec<u8>,
+    /// Some of the dots that were seen.
+    seen: Vec<Dot>,
     entries: BTreeSet<(Vec<u8>, Dot)>,
 }
 
@@ -193,6 +195,7 @@ fn made(random: &mut Random) -> Made {
     let mut made = Made {
         rack,
         name,
+        seen,
         entries,
     };
     let keys = made.keys();
@@ -225,9 +228,15 @@ fn given(random: &mut Random, made: &Made) -> Given {
         2 => label = random.bytes(8),
         _ => (),
     }
-    let dots: BTreeSet<Dot> = (0..random.below(3))
-        .map(|_| (random.between(1, ACTORS) as u8, random.next() % 80 + 1))
-        .collect();
+    let dots: BTreeSet<Dot> = match random.below(4) {
+        0 => {
+            let number = random.pick(&[1, 16, 17, CONTEXT_DOTS_MAX]);
+            (0..number).map(|_| random.pick(&made.seen)).collect()
+        }
+        _ => (0..random.below(3))
+            .map(|_| (random.between(1, ACTORS) as u8, random.next() % 80 + 1))
+            .collect(),
+    };
     let context: Vec<u8> = dots.into_iter().flat_map(bytes_of).collect();
     let dot = (random.between(2, ACTORS) as u8, random.next() % 400 + 1);
     Given {

@@ -23,7 +23,7 @@ listed! {
     /// The longest label.
     LABEL_MAX: usize = 32;
     /// The most dots in a context.
-    CONTEXT_DOTS_MAX: usize = 16;
+    CONTEXT_DOTS_MAX: usize = 64;
     /// The most dots in the tombstone.
     TOMBSTONE_DOTS_MAX: usize = 128;
     /// The longest store.

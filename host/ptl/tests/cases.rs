@@ -235,11 +235,11 @@ fn labels_and_contexts_of_either_side() {
     assert_eq!(one.own_add(&label(33), &[]), Err(Answer::BadName));
     assert_eq!(one.own_add(&label(0), &[]), Err(Answer::BadName));
     assert_eq!(one.lookup(&label(33)), Err(Answer::BadName));
-    assert_eq!(one.own_remove(&dots(2, 1..=17)), Err(Answer::BadDot));
-    let longest = one.own_add(&label(32), &dots(2, 1..=16));
+    assert_eq!(one.own_remove(&dots(2, 1..=65)), Err(Answer::BadDot));
+    let longest = one.own_add(&label(32), &dots(2, 1..=64));
     assert_eq!(
         longest.map(|message| message.len()),
-        Ok(6 + 3 + 33 + 9 + 145)
+        Ok(6 + 3 + 33 + 9 + 577)
     );
 }
 
@@ -247,7 +247,7 @@ fn labels_and_contexts_of_either_side() {
 fn the_longest_message() {
     let name = SetName(vec![b'n'; 16]);
     let mut one = Controller::set_up(Actor(1), &name, vec![0; 100]).expect("keeps the rules");
-    let message = one.own_add(&Label(vec![b'x'; 32]), &dots(2, 1..=16));
+    let message = one.own_add(&Label(vec![b'x'; 32]), &dots(2, 1..=64));
     assert_eq!(message.map(|message| message.len()), Ok(MESSAGE_MAX));
 }
 
@@ -374,8 +374,8 @@ fn a_tombstone_that_is_full() {
     for _ in 0..129 {
         one.own_add(&b7(), &[]).expect("accepted");
     }
-    for first in (1..=113).step_by(16) {
-        let context = dots(1, first..=first + 15);
+    for first in [1, 65] {
+        let context = dots(1, first..=first + 63);
         one.own_remove(&context).expect("accepted");
     }
     assert_eq!(one.state().count(), 128);

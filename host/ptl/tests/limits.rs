@@ -92,24 +92,24 @@ fn the_header_and_the_library_have_one_version() {
     assert_eq!(header, [(version, u64::from(ptl::calls::version()))]);
 }
 
-/// The numbers of document 01, and the places in a block that follow from them.
+/// The numbers of documents 01 and 02, and the places in a block that follow from them.
 #[test]
 fn the_numbers_are_those_of_the_rules() {
     let numbers = [
         ("ACTOR_MAX", 16),
         ("NAME_MAX", 16),
         ("LABEL_MAX", 32),
-        ("CONTEXT_DOTS_MAX", 16),
+        ("CONTEXT_DOTS_MAX", 64),
         ("TOMBSTONE_DOTS_MAX", 128),
         ("STORE_MAX", 65_536),
         ("WINDOW", 64),
         ("ANSWERS", 14),
         ("NUMBER_SIZE", 8),
         ("DOT_SIZE", 9),
-        ("CONTEXT_MAX", 144),
+        ("CONTEXT_MAX", 576),
         ("KEY_FIXED", 15),
         ("KEY_MAX", 63),
-        ("MESSAGE_MAX", 210),
+        ("MESSAGE_MAX", 642),
         ("ROW_SIZE", 16),
         ("CLOCK_SIZE", 256),
         ("TOMBSTONE_SIZE", 1152),

@@ -45,7 +45,17 @@ fn five_days_end_with_all_boxes_agreed() {
             "{last}"
         );
         assert!(!report.contains("DISAGREE"), "{report}");
+        assert!(longest_context(&report) > 16, "{report}");
     }
+}
+
+/// The number of dots in the longest context of a day.
+fn longest_context(report: &str) -> usize {
+    let (_, after) = report
+        .split_once("longest context\nof the day has ")
+        .expect("told");
+    let number = after.split(' ').next().expect("a word");
+    number.parse().expect("a number")
 }
 
 #[test]

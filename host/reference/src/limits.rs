@@ -1,5 +1,5 @@
-//! The limits of the rules and the sizes of the formats, taken from document 01 alone: each is said
-//! once, and derived from those that it is made of. A test of `ptl` compares them with the
+//! The limits of the rules and the sizes of the formats, taken from documents 01 and 02 alone: each is
+//! said once, and derived from those that it is made of. A test of `ptl` compares them with the
 //! product's.
 
 /// The largest actor; the smallest is 1.
@@ -9,7 +9,7 @@ pub const NAME_MAX: usize = 16;
 /// The longest label.
 pub const LABEL_MAX: usize = 32;
 /// The most dots in a context.
-pub const CONTEXT_DOTS_MAX: usize = 16;
+pub const CONTEXT_DOTS_MAX: usize = 64;
 /// The most dots in the tombstone.
 pub const TOMBSTONE_DOTS_MAX: usize = 128;
 /// The longest store.

@@ -160,8 +160,8 @@ fn context_bytes_that_are_no_dots() {
     let mut bench = Bench::new(1);
     for length in [1, 8, 10, 17] {
         let bytes = &dots(&[(2, 1), (3, 1)])[..length];
-        assert_eq!(bench.add_bytes(B7, bytes, 300).0, 6);
-        assert_eq!(bench.remove_bytes(bytes, 300).0, 6);
+        assert_eq!(bench.add_bytes(B7, bytes, MESSAGE_ROOM).0, 6);
+        assert_eq!(bench.remove_bytes(bytes, MESSAGE_ROOM).0, 6);
     }
 }
 

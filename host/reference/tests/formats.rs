@@ -190,7 +190,7 @@ fn structure_comes_before_rules() {
         (add_message(b"R1", &[b'x'; 33], (0, 0), &[]), 5),
         (add_message(b"R1", &[b'x'; 255], (1, 1), &[]), 5),
         (add_message(b"R1", b"\x00", (1, 1), &[]), 5),
-        (remove_message(b"R1", &dots_of(1, 1..=17)), 6),
+        (remove_message(b"R1", &dots_of(1, 1..=65)), 6),
         (remove_message(b"R1", &dots_of(1, 1..=255)), 6),
         (add_message(b"R1", b"B7", (1, 1), &[(1, 1)]), 6),
         (add_message(b"R1", b"B7", (17, 1), &[]), 6),
@@ -208,11 +208,11 @@ fn structure_comes_before_rules() {
 
 #[test]
 fn longest_message() {
-    let context = dots_of(2, 1..=16);
+    let context = dots_of(2, 1..=64);
     let bytes = add_message(&[b'n'; 16], &[b'x'; 32], (16, LARGEST), &context);
-    assert_eq!(bytes.len(), 210);
+    assert_eq!(bytes.len(), 642);
     let message = read_message(&bytes).message.unwrap();
     assert_eq!(message.bytes(), bytes);
     assert_eq!(message.add.unwrap().1, Dot::new(16, LARGEST).unwrap());
-    assert_eq!(message.context.len(), 16);
+    assert_eq!(message.context.len(), 64);
 }

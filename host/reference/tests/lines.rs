@@ -146,13 +146,13 @@ fn longest_label() {
 #[test]
 fn longest_context() {
     let mut bench = Bench::new(1);
-    bench.set_row(3, 20, 0);
-    assert_eq!(bench.remove(&dots_of(3, 1..=17)).0, 6);
-    assert_eq!(bench.add(B7, &dots_of(3, 1..=17)).0, 6);
-    let taken = remove_message(b"R1", &dots_of(3, 1..=17));
+    bench.set_row(3, 65, 0);
+    assert_eq!(bench.remove(&dots_of(3, 1..=65)).0, 6);
+    assert_eq!(bench.add(B7, &dots_of(3, 1..=65)).0, 6);
+    let taken = remove_message(b"R1", &dots_of(3, 1..=65));
     assert_eq!(bench.take(&taken), 6);
-    assert_eq!(bench.add(B7, &dots_of(3, 1..=16)).0, 0);
-    assert_eq!(bench.tombstone(), dots(&dots_of(3, 1..=16)));
+    assert_eq!(bench.add(B7, &dots_of(3, 1..=64)).0, 0);
+    assert_eq!(bench.tombstone(), dots(&dots_of(3, 1..=64)));
 }
 
 #[test]

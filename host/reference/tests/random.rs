@@ -3,6 +3,7 @@
 //! was sent is delivered, and controllers that accepted the same messages must agree.
 mod common;
 use common::*;
+use reference::limits::CONTEXT_DOTS_MAX;
 use reference::*;
 use std::collections::{BTreeMap, BTreeSet};
 
@@ -84,7 +85,7 @@ impl World {
         if self.random.chance(5) {
             self.random.below(20) as usize
         } else {
-            300
+            MESSAGE_ROOM
         }
     }
 
@@ -98,7 +99,7 @@ impl World {
             let counter = 1 + self.random.below(75);
             dots.extend(Dot::new(actor, counter));
         }
-        while dots.len() > 16 && self.random.chance(98) {
+        while dots.len() > CONTEXT_DOTS_MAX && self.random.chance(98) {
             dots.pop_last();
         }
         dots.into_iter().collect()

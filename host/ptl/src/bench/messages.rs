@@ -53,7 +53,7 @@ fn arrivals(random: &mut Random, number: usize) -> Vec<Dot> {
 }
 
 /// The bytes of an add.
-fn add(name: &[u8], label: &[u8], dot: Dot, context: &[Dot]) -> Vec<u8> {
+pub fn add(name: &[u8], label: &[u8], dot: Dot, context: &[Dot]) -> Vec<u8> {
     let mut message = head(b'a', name);
     message.push(label.len() as u8);
     message.extend(label);

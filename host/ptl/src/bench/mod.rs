@@ -1,6 +1,7 @@
 //! `ptl bench`: the product timed against two forms of the baseline, in rounds of three runs in one
 //! process whose answers and bytes are compared every time.
 
+mod contexts;
 mod data;
 mod floor;
 mod intake;
@@ -89,6 +90,7 @@ fn tables(sides: Sides, plan: Plan, report: &mut dyn Write) -> Result<(), Stoppe
     let pages = page_table(sides, plan, report)?;
     table::growth(names, &singles, report)?;
     pages::whole_table(sides, plan, report)?;
+    contexts::context_table(sides, plan, report)?;
     table::worst(names, "taking in", &intake, report)?;
     let full = |row: &&Row| row.used >= 15 * 1024;
     let full: Vec<Row> = singles.iter().filter(full).cloned().collect();

@@ -181,6 +181,6 @@ pub fn measure(
 
 /// As many copies as stay in a cache near the core, enough of them for the clock to tell, and at
 /// most 64.
-fn copies(used: usize) -> usize {
+pub fn copies(used: usize) -> usize {
     ((128 << 10) / (used + 2048)).clamp(1, 64)
 }

@@ -61,20 +61,30 @@ pub fn intake_head(names: Names, plan: Plan, report: &mut dyn Write) -> io::Resu
         report,
         "\nTaking in {number} messages of {others} actors, in ms"
     )?;
-    writeln!(report, "labels      name     used {}", columns(names))
+    let columns = columns(names);
+    writeln!(
+        report,
+        "labels      name     used {columns}  {:>9}",
+        "floor"
+    )
 }
 
 pub fn single_head(names: Names, report: &mut dyn Write) -> io::Result<()> {
     writeln!(report, "\nOne call, in us")?;
-    writeln!(report, "call       label     used {}", columns(names))
+    let columns = columns(names);
+    writeln!(
+        report,
+        "call       label     used {columns}  {:>9}",
+        "floor"
+    )
 }
 
-/// What stands above times, ratios and floor.
-fn columns(names: Names) -> String {
+/// What stands above times and ratios.
+pub fn columns(names: Names) -> String {
     let times = names.map(|name| format!("{name:>10}")).concat();
     let ratio = |name| format!("{:>9}  {:<9}", format!("/{name}"), "quartiles");
     let ratios = [names[1], names[2]].map(ratio).concat();
-    format!("{times}{ratios}  {:>9}", "floor")
+    times + &ratios
 }
 
 pub fn intake_row(row: &Row, report: &mut dyn Write) -> io::Result<()> {

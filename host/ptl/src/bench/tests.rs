@@ -117,7 +117,7 @@ fn passes(form: &dyn Engine) {
     assert!(passed, "{report}");
     assert!(report.ends_with("Answers and bytes were equal in every run.\n"));
     // Tables of 8, of 8 again, of 50 and of 4 lines, three lines for each call and label length,
-    // and three for each whole listing in pages.
+    // three for each whole listing in pages, and five for each call with a context.
     let starting = |words: &str| report.lines().filter(|l| l.starts_with(words)).count();
     assert_eq!(["short ", "mixed ", "bins ", "deep "].map(starting), [4; 4]);
     let calls = [
@@ -127,13 +127,14 @@ fn passes(form: &dyn Engine) {
         "lookup ",
         "compaction ",
     ];
-    assert_eq!(calls.map(starting), [16; 5]);
+    assert_eq!(calls.map(starting), [21, 21, 16, 16, 16]);
+    assert_eq!(starting("taking in "), 5);
     assert_eq!(["page front ", "page mid "].map(starting), [2; 2]);
     assert_eq!(["    2     ", "   32     "].map(starting), [3; 2]);
     let name = form.name();
     let named =
         [format!(" /{name} "), format!("  {name} ")].map(|name| report.matches(&name).count());
-    assert_eq!(named, [3, 14], "{report}");
+    assert_eq!(named, [4, 15], "{report}");
     assert!(report.lines().all(|line| line.len() <= 120), "{report}");
 }
 

@@ -4,6 +4,7 @@
 use super::floor::Floor;
 use super::station::Said;
 use crate::script::{Command, Worded};
+use limits::DOT_SIZE;
 use ptl::Answer;
 
 /// Answers that a box meets in an honest day, beside 0 and those to noise.
@@ -78,7 +79,10 @@ impl Floor<'_> {
             return false;
         };
         match said.answer {
-            0 => self.post(at, said.message),
+            0 => {
+                self.longest = self.longest.max(context_dots(command));
+                self.post(at, said.message);
+            }
             TOMBSTONE_FULL | STORE_FULL => {}
             answer => self.fault(
                 at,
@@ -86,5 +90,13 @@ impl Floor<'_> {
             ),
         }
         said.answer == 0
+    }
+}
+
+/// The number of dots in the context of an own call.
+fn context_dots(command: &Command) -> usize {
+    match command {
+        Command::Add { context, .. } | Command::Remove { context, .. } => context.len() / DOT_SIZE,
+        _ => 0,
     }
 }

@@ -1,7 +1,8 @@
 //! The day: its phases, their weather, and what is to be done in each.
 
 use super::floor::Floor;
-use super::goods::{label, Bin, BINS, PARTS, SPRING, SPRING_BIN, SPRING_MOVES_TO};
+use super::goods::{label, Bin, BINS, PARTS, RETURNS, RETURNS_BIN};
+use super::goods::{SPRING, SPRING_BIN, SPRING_MOVES_TO};
 use super::weather::Weather;
 use super::work::{Done, Job, Task};
 use crate::random::Random;
@@ -51,7 +52,7 @@ pub const PHASES: [Phase; 5] = [
     },
     Phase {
         name: "work",
-        story: "labels come and go",
+        story: "labels come and go; boxes put returns in E12, each time under a dot of their own",
         plan: Plan::Work(125),
         weather: Weather::ROUGH,
         rounds: 4,
@@ -62,7 +63,7 @@ pub const PHASES: [Phase; 5] = [
     },
     Phase {
         name: "lunch",
-        story: "racks change places, all at once; the gas springs go from B7 to C2",
+        story: "racks change places, all at once; the gas springs go from B7 to C2; goods-in clears E12",
         plan: Plan::Move,
         weather: Weather::FOUL,
         rounds: 1,
@@ -101,6 +102,8 @@ const TRIES: usize = 5;
 const FILLED: u8 = 10;
 /// The box of the goods-in desk, which does a quarter of all work.
 const GOODS_IN: usize = 4;
+/// Tasks in a hundred that are returns.
+const RETURNED: usize = 6;
 /// Pairs of racks that change places at lunch; the gas springs' is one of them.
 const PAIRS: usize = 4;
 
@@ -179,10 +182,14 @@ impl Floor<'_> {
             true => GOODS_IN,
             false => self.random.below(RACKS),
         };
-        Task::new(at, Job::Any)
+        let job = match self.random.chance(RETURNED) {
+            true => Job::Put(label(RETURNS, RETURNS_BIN)),
+            false => Job::Any,
+        };
+        Task::new(at, job)
     }
 
-    /// Pairs of racks change places, the boxes with them.
+    /// Pairs of racks change places, the boxes with them; the goods-in desk clears the returns.
     fn moving(&mut self) -> Vec<Task> {
         let (spring, other) = (SPRING_BIN.rack, SPRING_MOVES_TO.rack);
         let mut racks: Vec<u8> = (0..RACKS as u8)
@@ -191,7 +198,8 @@ impl Floor<'_> {
         shuffle(&mut self.random, &mut racks);
         let pairs = racks.chunks_exact(2).map(|pair| (pair[0], pair[1]));
         let pairs: Vec<(u8, u8)> = pairs.take(PAIRS - 1).chain([(spring, other)]).collect();
-        let mut tasks = Vec::new();
+        let clear = Job::Clear(label(RETURNS, RETURNS_BIN));
+        let mut tasks = vec![Task::new(GOODS_IN, clear)];
         for (one, two) in pairs {
             tasks.extend(self.moving_one(one, two));
             tasks.extend(self.moving_one(two, one));
@@ -199,8 +207,9 @@ impl Floor<'_> {
         tasks
     }
 
-    /// The box of a rack takes all labels that it lists there to another place, where the bins are
-    /// numbered from elsewhere. In the morning boxes and racks have the same numbers.
+    /// The box of a rack takes all labels that it lists there, but for the returns, to another place,
+    /// where the bins are numbered from elsewhere. In the morning boxes and racks have the same
+    /// numbers.
     fn moving_one(&mut self, from: u8, to: u8) -> Vec<Task> {
         let at = usize::from(from);
         let turn = match from == SPRING_BIN.rack {
@@ -208,7 +217,8 @@ impl Floor<'_> {
             false => self.random.below(usize::from(BINS)) as u8,
         };
         self.stations[at].place = to;
-        let listed = self.labels_at(at, from);
+        let mut listed = self.labels_at(at, from);
+        listed.retain(|(_, part, _)| part != RETURNS);
         let mut tasks = Vec::new();
         for (old, part, number) in listed {
             let number = (number - 1 + turn) % BINS + 1;

@@ -44,6 +44,8 @@ pub struct Floor<'a> {
     pub calls: u64,
     pub tally: Tally,
     pub samples: Vec<Sample>,
+    /// The most dots that the context of an accepted own call had.
+    pub longest: usize,
     /// The labels that the racks' move takes away, and what was seen right after it.
     pub moved: Vec<Vec<u8>>,
     pub after_move: AfterMove,
@@ -72,6 +74,7 @@ impl<'a> Floor<'a> {
             calls: 0,
             tally: Tally::default(),
             samples: Vec::new(),
+            longest: 0,
             moved: Vec::new(),
             after_move: AfterMove::default(),
             terminal: Terminal::new(seed),

@@ -15,10 +15,18 @@ pub const SPRING: &str = "SPRING";
 pub const SPRING_BIN: Bin = Bin { rack: 1, number: 7 };
 pub const SPRING_MOVES_TO: Bin = Bin { rack: 2, number: 2 };
 
+/// What comes back to the goods-in desk: boxes put it in one bin, each time under a dot of their own,
+/// until the desk clears the bin.
+pub const RETURNS: &str = "RETURNS";
+pub const RETURNS_BIN: Bin = Bin {
+    rack: 4,
+    number: 12,
+};
+
 /// The parts that the table shows.
 pub const WATCHED: [&str; 5] = [SPRING, "FUSE", "HINGE", "RELAY", "VALVE"];
 
-/// All parts but the gas springs.
+/// All parts but the gas springs and the returns.
 pub const PARTS: [&str; 48] = [
     "BEARING", "BELT", "BOLT-M4", "BOLT-M5", "BOLT-M6", "BOLT-M8", "BRACKET", "BUSHING", "CABLE",
     "CAP", "CHAIN", "CLAMP", "CLIP", "COIL", "CRANK", "DIODE", "FAN", "FILTER", "FLANGE", "FUSE",

@@ -23,7 +23,8 @@ mod work;
 use crate::engine::Engine;
 use day::PHASES;
 use floor::Floor;
-use limits::TOMBSTONE_DOTS_MAX;
+use goods::RETURNS_BIN;
+use limits::{CONTEXT_DOTS_MAX, TOMBSTONE_DOTS_MAX};
 use picture::Picture;
 use std::fs::File;
 use std::io::{self, Write};
@@ -117,6 +118,7 @@ const LEGEND: &str = "
 /// What the numbers meant, and the table of lamps.
 fn foot(floor: &Floor, report: &mut dyn Write) -> io::Result<()> {
     let (mistakable, left) = (floor.radio.mistakable, floor.most_left());
+    let longest = floor.longest;
     let Counts {
         pages,
         short,
@@ -132,6 +134,8 @@ Pages of a few labels that a hand terminal read while the boxes worked, each hel
 the box had accepted by then: {pages}; refused for want of room and read again with more: {short}. Listings
 read to their end: {listings}, of them {changed} of boxes that changed between the pages. After each phase the
 pages of each box, read with nothing between them, were held to its listing.
+Returns of many boxes, all in {RETURNS_BIN}, were cleared by the goods-in desk in one remove: the longest context
+of the day has {longest} dots of {CONTEXT_DOTS_MAX}.
 Dots that stay in a tombstone after the last compaction: at most {left} of {TOMBSTONE_DOTS_MAX} in a box.
 
 Bins that the lamps of each box light at the end of the day, and whether its listing is that of the

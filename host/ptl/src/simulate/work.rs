@@ -1,7 +1,7 @@
 //! What people ask of a box: to put a part in a bin, to clear one, to move a label.
 
 use super::floor::Floor;
-use super::goods::{label, part_and_bin, Bin, BINS, PARTS, SPRING};
+use super::goods::{label, part_and_bin, Bin, BINS, PARTS, RETURNS, RETURNS_BIN, SPRING};
 use crate::script::Command;
 use limits::{CONTEXT_DOTS_MAX, MESSAGE_MAX};
 use ptl::{dots_to_bytes, Dot, Entry};
@@ -11,6 +11,8 @@ pub enum Job {
     Put(Vec<u8>),
     /// A label is added with the dots of another as context, which takes the other away.
     Move { old: Vec<u8>, new: Vec<u8> },
+    /// All dots of a label are removed.
+    Clear(Vec<u8>),
     /// Whatever is to be done at a rack.
     Any,
 }
@@ -50,7 +52,11 @@ impl Floor<'_> {
         }
         let command = match &task.job {
             Job::Put(label) => Some(add(label.clone(), &[])),
-            Job::Move { old, new } => self.move_label(at, old, new),
+            Job::Move { old, new } => {
+                let dots = self.dots(at, old);
+                dots.map(|dots| add(new.clone(), &dots))
+            }
+            Job::Clear(label) => self.dots(at, label).map(|dots| remove(&dots)),
             Job::Any => self.any_work(at),
         };
         match command.is_none_or(|command| self.own(at, &command)) {
@@ -71,18 +77,20 @@ impl Floor<'_> {
         labels.collect()
     }
 
-    fn move_label(&self, at: usize, old: &[u8], new: &[u8]) -> Option<Command> {
+    /// The dots of a label that a box lists.
+    fn dots(&self, at: usize, label: &[u8]) -> Option<Vec<Dot>> {
         let entries = self.stations[at].entries(self.engine);
-        let entry = entries.iter().find(|entry| entry.label.0 == old)?;
-        Some(add(new.to_vec(), &entry.dots))
+        let entry = entries.into_iter().find(|entry| entry.label.0 == label)?;
+        Some(entry.dots)
     }
 
-    /// What is to be done at the box's rack, or now and then at another. The gas springs stay.
+    /// What is to be done at the box's rack, or now and then at another. The gas springs and the
+    /// returns stay.
     fn any_work(&mut self, at: usize) -> Option<Command> {
         let place = self.stations[at].place;
         let mut entries = self.stations[at].entries(self.engine);
         let free = free_bins(&entries, place);
-        entries.retain(|entry| part(entry) != Some(SPRING));
+        entries.retain(|entry| ![Some(SPRING), Some(RETURNS)].contains(&part(entry)));
         let (mine, others): (Vec<Entry>, Vec<Entry>) = entries
             .into_iter()
             .partition(|entry| rack(entry) == Some(place));
@@ -117,12 +125,12 @@ fn rack(entry: &Entry) -> Option<u8> {
     part_and_bin(&entry.label.0).map(|(_, bin)| bin.rack)
 }
 
-/// The bins of a rack that no listed label speaks of.
+/// The bins of a rack that no listed label speaks of, but for that of the returns.
 fn free_bins(entries: &[Entry], rack: u8) -> Vec<Bin> {
     let bins = entries
         .iter()
         .filter_map(|entry| part_and_bin(&entry.label.0));
-    let taken: Vec<Bin> = bins.map(|(_, bin)| bin).collect();
+    let taken: Vec<Bin> = bins.map(|(_, bin)| bin).chain([RETURNS_BIN]).collect();
     let all = (1..=BINS).map(|number| Bin { rack, number });
     all.filter(|bin| !taken.contains(bin)).collect()
 }

@@ -5,6 +5,8 @@
 use reference::*;
 
 pub const LARGEST: u64 = u64::MAX;
+/// An output with room for any message.
+pub const MESSAGE_ROOM: usize = 700;
 /// What unused output and store bytes hold before a call.
 const FILL: u8 = 0xA5;
 
@@ -62,7 +64,7 @@ impl Bench {
 
     /// Own add with an ample output; the message written.
     pub fn add(&mut self, label: &[u8], context: &[(u8, u64)]) -> (u8, Vec<u8>) {
-        self.add_bytes(label, &dots(context), 300)
+        self.add_bytes(label, &dots(context), MESSAGE_ROOM)
     }
 
     pub fn add_bytes(&mut self, label: &[u8], context: &[u8], room: usize) -> (u8, Vec<u8>) {
@@ -74,7 +76,7 @@ impl Bench {
     }
 
     pub fn remove(&mut self, context: &[(u8, u64)]) -> (u8, Vec<u8>) {
-        self.remove_bytes(&dots(context), 300)
+        self.remove_bytes(&dots(context), MESSAGE_ROOM)
     }
 
     pub fn remove_bytes(&mut self, context: &[u8], room: usize) -> (u8, Vec<u8>) {

@@ -2,7 +2,11 @@
 
 use crate::common::{add_message, dots, dots_of, key, remove_message, LARGEST};
 use crate::recording::{Node, Recording, AMPLE};
+use reference::limits::CONTEXT_DOTS_MAX;
 use reference::{DAMAGED, STORE_FULL};
+
+/// The most dots of a context.
+const MOST: u64 = CONTEXT_DOTS_MAX as u64;
 
 /// Lines that break the form: no command, a field too few, no number.
 const BROKEN: [&str; 16] = [
@@ -121,7 +125,7 @@ pub fn set_ups(recording: &mut Recording) {
         node.list(64);
         node.show();
     }
-    let sent = node.add(&[255; 32], &dots(&dots_of(3, 1..=16)));
+    let sent = node.add(&[255; 32], &dots(&dots_of(3, 1..=MOST)));
     node.take(&sent.written);
     node.lookup(&[255; 32]);
 }
@@ -150,7 +154,7 @@ pub fn own_calls(recording: &mut Recording) {
         node.add(b"B7", &dots(context));
         node.remove(&dots(context));
     }
-    for count in [17, 18, 255, 256, 600] {
+    for count in [MOST + 1, MOST + 2, 255, 256, 600] {
         let context = dots(&dots_of(2, 1..=count));
         node.add(b"B7", &context);
         node.remove(&context);
@@ -160,10 +164,11 @@ pub fn own_calls(recording: &mut Recording) {
 
 /// Outputs one too short, long enough, longer.
 fn outputs(node: &mut Node) {
-    for count in [16, 0] {
+    for count in [MOST, 0] {
         let context = dots(&dots_of(2, 1..=count));
         let (add, remove) = (context.len() + 21, context.len() + 10);
-        for (add, remove) in [(0, 0), (add - 1, remove - 1), (add, remove), (300, 300)] {
+        let rooms = [(0, 0), (add - 1, remove - 1), (add, remove), (AMPLE, AMPLE)];
+        for (add, remove) in rooms {
             node.remove_into(&context, remove);
             node.add_into(b"\x01", &context, add);
         }
@@ -293,10 +298,7 @@ pub fn stores(recording: &mut Recording) {
 pub fn full_tombstone(recording: &mut Recording) {
     let mut node = recording.start(2, 7, b"R1", 64);
     for actor in [2, 3, 2, 3] {
-        for from in [1, 17, 33, 49] {
-            let context = dots_of(actor, from..=from + 15);
-            node.take(&remove_message(b"R1", &context));
-        }
+        node.take(&remove_message(b"R1", &dots_of(actor, 1..=MOST)));
     }
     assert_eq!(node.state().count, 128);
     let sent = node.add(b"B7", &dots(&[(2, 5)])).written;
@@ -305,7 +307,7 @@ pub fn full_tombstone(recording: &mut Recording) {
     node.remove(&more);
     node.take(&remove_message(b"R1", &[(7, 1)]));
     node.take(&add_message(b"R1", b"B7", (9, 1), &[(3, 64), (7, 1)]));
-    node.remove(&dots(&dots_of(3, 1..=16)));
+    node.remove(&dots(&dots_of(3, 1..=MOST)));
     node.take(&sent);
     node.compact();
     node.take(&add_message(b"R1", b"B8", (9, 1), &[(3, 64)]));
@@ -325,8 +327,14 @@ pub fn messages(recording: &mut Recording) {
     }
     all.extend((0..=good.len()).map(|length| good[..length].to_vec()));
     all.push([&good[..], &[0]].concat());
-    let lengths = [(2, 32, 16), (2, 33, 16), (17, 2, 16), (2, 32, 17)];
-    for (name, label, count) in [&lengths[..], &[(16, 32, 16)]].concat() {
+    let lengths = [
+        (2, 32, MOST),
+        (2, 33, MOST),
+        (17, 2, MOST),
+        (2, 32, MOST + 1),
+        (16, 32, MOST),
+    ];
+    for (name, label, count) in lengths {
         let context = dots_of(3, 1..=count);
         let name = &b"R1CDEFGHIJKLMNOPQ"[..name];
         all.push(add_message(name, &[b'B'; 33][..label], (4, 1), &context));

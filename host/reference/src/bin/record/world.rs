@@ -3,6 +3,7 @@
 
 use crate::common::{add_message, dots, key, remove_message, Xorshift, LARGEST};
 use crate::recording::{Node, Recording, Reply, AMPLE, CONTROLLERS};
+use reference::limits::CONTEXT_DOTS_MAX;
 
 const LABELS: [&[u8]; 6] = [b"B7", b"B70", b"B8", b"A", &[255; 32], b"\x01"];
 const BAD_LABELS: [&[u8]; 4] = [b"", b"B\x007", &[66; 33], b"\x00"];
@@ -92,7 +93,7 @@ impl World<'_> {
     fn context(&mut self, random: &mut Xorshift, at: usize, percent: u64) -> Vec<u8> {
         let mut context = self.node(at).live();
         context.retain(|_| random.chance(percent));
-        context.truncate(16);
+        context.truncate(CONTEXT_DOTS_MAX);
         while self.wild && random.chance(30) {
             let dot = (self.actor(random), self.counter(random));
             context.push(dots(&[dot]).try_into().expect("nine bytes"));
