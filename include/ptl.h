@@ -35,7 +35,7 @@ typedef char ptl_size_t_has_8_bytes[sizeof(size_t) == 8 ? 1 : -1];
 
 /* The version of this interface: 100 * major + minor. A higher minor number adds functions and macros and keeps all that was there, the
    block too. Under another major number a function, a limit, a format or the block may be another: see docs/INTEGRATION.md, "Versions". */
-#define PTL_VERSION 200
+#define PTL_VERSION 300
 
 /* The version that the library has: PTL_VERSION of the header that goes with it. */
 uint32_t ptl_version(void);
@@ -43,11 +43,14 @@ uint32_t ptl_version(void);
 /* ---- limits of the rules */
 
 /* Actors are 1 to PTL_ACTOR_MAX. Counters are 1 to the largest number of 8 bytes. A set name has 1 to PTL_NAME_MAX bytes, a label 1 to
-   PTL_LABEL_MAX, none of them 0. A context has at most PTL_CONTEXT_DOTS_MAX dots, the tombstone at most PTL_TOMBSTONE_DOTS_MAX, a store at
-   most PTL_STORE_MAX bytes. A row of the clock sees events up to PTL_WINDOW above its base. */
+   PTL_LABEL_MAX, none of them 0. A label prints if each of its bytes is PTL_PRINT_MIN to PTL_PRINT_MAX: adds take no other, but a store may
+   hold others, which an older version took. A context has at most PTL_CONTEXT_DOTS_MAX dots, the tombstone at most PTL_TOMBSTONE_DOTS_MAX, a
+   store at most PTL_STORE_MAX bytes. A row of the clock sees events up to PTL_WINDOW above its base. */
 #define PTL_ACTOR_MAX 16
 #define PTL_NAME_MAX 16
 #define PTL_LABEL_MAX 32
+#define PTL_PRINT_MIN 0x20
+#define PTL_PRINT_MAX 0x7E
 #define PTL_CONTEXT_DOTS_MAX 64
 #define PTL_TOMBSTONE_DOTS_MAX 128
 #define PTL_STORE_MAX 65536
@@ -119,7 +122,7 @@ enum {
     PTL_NO_MARK = 2,         /* message under 5 bytes or wrong mark */
     PTL_BAD_VERSION = 3,     /* version other than 1 */
     PTL_BAD_SHAPE = 4,       /* a message's kind is unknown, its fields run past the end or bytes are left over; or bytes given as a key are none */
-    PTL_BAD_NAME = 5,        /* set name, label, or an actor given to set-up or to a key, breaks its rule */
+    PTL_BAD_NAME = 5,        /* set name, label, or an actor given to set-up or to a key, breaks its rule; or the label of an add does not print */
     PTL_BAD_DOT = 6,         /* a dot, a context or a key's counter breaks its rule, or an add's context has its own dot */
     PTL_OTHER_SET = 7,       /* message is for another set */
     PTL_OWN_AHEAD = 8,       /* an offered dot of this controller's own actor, but for the one an own add takes, is above its own base */
@@ -140,8 +143,8 @@ enum {
    throughout, which is a damaged state. */
 uint8_t ptl_set_up(uint8_t actor, const uint8_t *name, size_t name_len, uint8_t *state, size_t state_len);
 
-/* Adds a label under a new dot of this controller, its own base + 1, and removes the dots of a context: puts the key in store and writes
-   the add message, of *written bytes, to out. Answers 1, 5, 6, 8, 9, 10, 11, 12, 13. */
+/* Adds a label that prints under a new dot of this controller, its own base + 1, and removes the dots of a context: puts the key in store
+   and writes the add message, of *written bytes, to out. Answers 1, 5, 6, 8, 9, 10, 11, 12, 13. */
 uint8_t ptl_own_add(uint8_t *state, size_t state_len, uint8_t *store, size_t store_len, const uint8_t *label, size_t label_len,
                     const uint8_t *context, size_t context_len, uint8_t *out, size_t out_len, size_t *written);
 
@@ -150,7 +153,7 @@ uint8_t ptl_own_remove(uint8_t *state, size_t state_len, const uint8_t *store, s
                        size_t context_len, uint8_t *out, size_t out_len, size_t *written);
 
 /* Takes a message in, one that ptl_own_add or ptl_own_remove wrote at any controller of the set; it may come late, twice or in any order.
-   Answers 1, 2, 3, 4, 5, 6, 7, 8, 10, 11, 12. */
+   Answers 1, 2, 3, 4, 5, 6, 7, 8, 10, 11, 12; 5 for an add of a label that does not print too, as a box of an older version may send it. */
 uint8_t ptl_take_in(uint8_t *state, size_t state_len, uint8_t *store, size_t store_len, const uint8_t *message, size_t message_len);
 
 /* Lists *labels labels in *written bytes of out: for each label with a key whose dot is not in the tombstone, in ascending order, its
@@ -162,8 +165,8 @@ uint8_t ptl_list(const uint8_t *state, size_t state_len, const uint8_t *store, s
    bytes; *more becomes whether labels are left after them. start is the empty label, for the front of the listing, or any label; it need not
    be in the store. For a whole listing begin with the empty one, go on after the last label of the page before, and stop when *more is false.
    Every page speaks of the state that it finds. No label left is a page of no entry, accepted in an output of any length. Answers 1; 5 if
-   start is not empty and breaks the rule of a label; 13 if a label is left and the entry of the first one does not fit. On a refusal *more is
-   false. */
+   start is not empty and breaks the rule of a label (it need not print); 13 if a label is left and the entry of the first one does not fit.
+   On a refusal *more is false. */
 uint8_t ptl_page(const uint8_t *state, size_t state_len, const uint8_t *store, size_t store_len, const uint8_t *start, size_t start_len,
                  uint8_t *out, size_t out_len, size_t *written, size_t *labels, bool *more);
 
@@ -176,7 +179,7 @@ struct ptl_bytes {
 /* Looks a label up: *found becomes the very stretch of store that holds the label's keys, dead ones included, or the empty stretch at the
    place where they would go; *listed becomes whether ptl_list lists the label. On a refusal *found is the empty stretch at the front of
    store, and *listed false. The stretch is good for as long as store is not changed. Before the call *found must be a stretch too:
-   { store, 0 } will do. Answers 1, 5. */
+   { store, 0 } will do. The label need not print. Answers 1, 5. */
 uint8_t ptl_lookup(const uint8_t *state, size_t state_len, const uint8_t *store, size_t store_len, const uint8_t *label, size_t label_len,
                    struct ptl_bytes *found, bool *listed);
 
@@ -186,7 +189,7 @@ uint8_t ptl_compact(uint8_t *state, size_t state_len, uint8_t *store, size_t sto
 /* ---- keys and messages */
 
 /* Writes a key, of *written bytes, to out. Its kind is one byte: 'c' (clock), 'd' (tombstone), 'e' (label) or 'z' (end). Of label, actor
-   and counter those that the kind lacks are not looked at. Answers 4 for another kind, then 5, 6, 13. */
+   and counter those that the kind lacks are not looked at; a label need not print. Answers 4 for another kind, then 5, 6, 13. */
 uint8_t ptl_write_key(uint8_t kind, const uint8_t *name, size_t name_len, const uint8_t *label, size_t label_len, uint8_t actor,
                       uint64_t counter, uint8_t *out, size_t out_len, size_t *written);
 
@@ -196,7 +199,7 @@ uint8_t ptl_read_key(const uint8_t *bytes, size_t bytes_len, uint8_t *kind, size
                      size_t *label_len, uint8_t *actor, uint64_t *counter);
 
 /* Reads a message: its kind byte, 'a' (add) or 'r' (remove), where in bytes its set name, label and context stand (first place and
-   length), and an add's dot. A field that the kind lacks is 0. Answers 2, 3, 4, 5, 6. */
+   length), and an add's dot. A field that the kind lacks is 0. Answers 2, 3, 4, 5, 6; an add's label must print. */
 uint8_t ptl_read_message(const uint8_t *bytes, size_t bytes_len, uint8_t *kind, size_t *name_at, size_t *name_len, size_t *label_at,
                          size_t *label_len, uint8_t *actor, uint64_t *counter, size_t *context_at, size_t *context_len);
 

@@ -14,13 +14,13 @@ use Rattle.wire.proofs.Tests.{both, pass, fail, holds, neither-left, neither-ri
 use Rattle.wire.proofs.Lists.{keep-member}
 use Rattle.dots.specs.declared.Dot.{Dot}
 use Rattle.dots.specs.Answer.{numberOf}
-use Rattle.dots.specs.Names.{labelOk}
+use Rattle.dots.specs.Names.{labelOk, labelPrints}
 use Rattle.dots.specs.Dots.{Context, dotOf, compareDots, dotOk, contextOk}
 use Rattle.dots.specs.Wire.{wholeDots, dotsOf}
 use Rattle.dots.specs.Entries.{Entry, entry}
 use Rattle.dots.specs.Message.{add, remove}
 use Rattle.dots.proofs.Table.{none-holds}
-use Rattle.dots.proofs.Rules.{ascending-valid}
+use Rattle.dots.proofs.Rules.{ascending-valid, prints-ok}
 use Rattle.clock.specs.Clock.{sees}
 use Rattle.messages.specs.Message.{messageOk}
 use Rattle.replica.specs.Machine.{Call, ownAdd, ownRemove, unseen, joining, ownBase, nextDot, aboveOwnBase, apply, mayApply, effect, allowed}
@@ -120,7 +120,8 @@ module _ (st : State) (store label context out : Bytes) where
       let d = decided-done st store out refusals (ownAddDone st store label context out) refl acc in
       let passed = none-holds refusals (search needs) (d .1) in
       let u = undamaged st store (passed .0) in
-      let text : labelOk label ≡ true = not-false _ (passed .1 .0) in
+      let print : labelPrints label ≡ true = not-false _ (passed .1 .0) in
+      let text : labelOk label ≡ true = prints-ok label print in
       let rule = context-rule context (neither-left _ (hasDot next ds) (passed .1 .1 .0)) in
       let new : member compareDots next ds ≡ false = neither-right (badContext context) _ (passed .1 .1 .0) in
       let ok = context-dots ds rule in
@@ -131,7 +132,7 @@ module _ (st : State) (store label context out : Bytes) where
       let fits = rw joins at (may-join m (next ∷ ds) (rows-ok st store u) offered-ok (not-false _ (passed .1 .1 .1 .1 .1 .0))) in
       record {
         result-is = d .0;
-        message-ok = rw (name-ok st store u, text, next-good, rule, new);
+        message-ok = rw (name-ok st store u, print, next-good, rule, new);
         applies = record {
           fresh = fresh;
           context = ds;

@@ -2,7 +2,7 @@
 use mathlib.Core.Path.{refl}
 use Rattle.wire.specs.Lists.{keep, any, all, compareLists, member, ascendsFrom, ascends, insert, insertAll}
 use Rattle.wire.specs.Bytes.{bigEndian, fromBigEndian, zeroAt}
-use Rattle.dots.specs.Names.{textOk}
+use Rattle.dots.specs.Names.{textOk, labelPrints}
 use Rattle.dots.specs.Dots.{dotOk, ascendingDots}
 use Rattle.dots.specs.Wire.{dotBytes, dotsBytes, dotsAt, dotsOf}
 use Rattle.dots.specs.Entries.{prepend, linesOf}
@@ -36,7 +36,7 @@ use Rattle.calls.specs.Premises.{PremisesMet, TwoLabels}
 
 -- all that the cases compute with: whoever unfolds this unfolds each of these
 computing : Unit {0}
-unfolding keep any all compareLists member ascendsFrom ascends insert insertAll bigEndian fromBigEndian zeroAt textOk dotOk ascendingDots dotBytes dotsBytes dotsAt dotsOf prepend linesOf testBit seen wellFormed trailingOnes settled marked join total known climb unbroken windowEvents tooFar rowAt withRow sees allTo rowsOk clockOk joinDot joinEach joinAll countersOf near namesOk keyCounterOk afterType keyBytes fieldsAs isKey entryKey keyEntry messageBytes layoutOf markOk versionOk shapeOk messageAt nameOf messageOf endToEnd storeBytes keyLength keysAfter keyLabel keyDot entriesIn usedOk storeOk listingBytes fitting firstFits apply compacted listing found effect view stateNameOk tombstoneOk damaged stateOf storeOf setUp ownAddResult ownRemoveResult takeInResult listResult pageResult moreFollow lookupResult compactResult resultOf run answersOf lastOutput shown writeAnswer readAnswer countOwnAdd historyFrom ruleListing messagesOf callOf events messageBytesOf traffic mathlib.Core.List.flatMap
+unfolding keep any all compareLists member ascendsFrom ascends insert insertAll bigEndian fromBigEndian zeroAt textOk labelPrints dotOk ascendingDots dotBytes dotsBytes dotsAt dotsOf prepend linesOf testBit seen wellFormed trailingOnes settled marked join total known climb unbroken windowEvents tooFar rowAt withRow sees allTo rowsOk clockOk joinDot joinEach joinAll countersOf near namesOk keyCounterOk afterType keyBytes fieldsAs isKey entryKey keyEntry messageBytes layoutOf markOk versionOk shapeOk messageAt nameOf messageOf endToEnd storeBytes keyLength keysAfter keyLabel keyDot entriesIn usedOk storeOk listingBytes fitting firstFits apply compacted listing found effect view stateNameOk tombstoneOk damaged stateOf storeOf setUp ownAddResult ownRemoveResult takeInResult listResult pageResult moreFollow lookupResult compactResult resultOf run answersOf lastOutput shown writeAnswer readAnswer countOwnAdd historyFrom ruleListing messagesOf callOf events messageBytesOf traffic mathlib.Core.List.flatMap
 computing = tt
 
 pub starred-cases : StarredCases
@@ -77,6 +77,11 @@ line-cases = record {
   page-start = refl;
   page-empty = refl;
   page-output = refl;
+  print-own = refl;
+  print-taken = refl;
+  older-listed = refl;
+  older-found = refl;
+  older-dropped = refl;
 }
 
 pub order-cases : OrderCases

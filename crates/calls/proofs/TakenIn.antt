@@ -20,6 +20,7 @@ use Rattle.dots.specs.Dots.{Context, compareDots, dotOk}
 use Rattle.dots.specs.Entries.{Entry, entry, entryDot}
 use Rattle.dots.specs.Message.{Message, add, remove, offeredOf}
 use Rattle.dots.proofs.Table.{none-holds}
+use Rattle.dots.proofs.Rules.{prints-ok}
 use Rattle.clock.specs.Clock.{sees}
 use Rattle.keys.specs.Entry.{entryOk}
 use Rattle.messages.specs.Message.{namesOk, dotsOk}
@@ -84,7 +85,7 @@ module _ (st : State) (store : Bytes) (name : Name) (u : Undamaged st store) whe
         context = context;
         effect-is = refl;
         whole = u;
-        fresh-ok = unseen-ok m label d (entry-ok label d (search both) d-ok);
+        fresh-ok = unseen-ok m label d (entry-ok label d (prints-ok label (search both)) d-ok);
         context-ok = ok;
         allows = may-add m fresh context d (d ∷ []) (may-apply m fresh context (d ∷ []) fits ahead) (not-true _ new);
         fits = fits;

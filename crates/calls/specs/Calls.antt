@@ -26,7 +26,7 @@ use Rattle.calls.specs.declared.SetUp.{SetUp}
 use Rattle.calls.specs.State.{clockModel, Machine, nameOf, entries, view}
 use Rattle.calls.specs.Damage.{damaged}
 use Rattle.calls.specs.Effect.{padded, tombstoneOf, stateOf, storeOf, putOut}
-use Rattle.calls.specs.Refusals.{badActor, badName, badLabel, badStart, badContext, hasDot, outputShort, otherSet, ownAhead, counterEnd, tooFar, tombstoneFull, storeFull}
+use Rattle.calls.specs.Refusals.{badActor, badName, badLabel, badAddLabel, badStart, badContext, hasDot, outputShort, otherSet, ownAhead, counterEnd, tooFar, tombstoneFull, storeFull}
 use Rattle.clock.specs.Clock.{zeroClock}
 
 -- ---- set-up
@@ -89,7 +89,7 @@ module _ (st : State) (store label context out : Bytes) where
   abbrev pub ownAddRefusals : Refusals
   ownAddRefusals =
       (damaged st store, Damaged)
-      ∷ (badLabel label, BadName)
+      ∷ (badAddLabel label, BadName)
       ∷ (badContext context || hasDot addDot (dotsOf context), BadDot)
       ∷ (ownAhead st store (dotsOf context), OwnAhead)
       ∷ (counterEnd st store, CounterEnd)

@@ -1,4 +1,4 @@
--- The other cases of document 01's "Both sides of the line", its slips that no settled case shows, what calls leave past what they write, and pages.
+-- The other cases of document 01's "Both sides of the line", its slips that no settled case shows, what calls leave past what they write, pages, and document 02's request 5.
 use Prim.Native.Nat.{ℕ}
 use mathlib.Core.Bool.{Bool, true, false}
 use mathlib.Core.List.{List, [], _∷_, _++_, map}
@@ -7,6 +7,7 @@ use lib.ListN.{replicate}
 use Rattle.wire.specs.Bytes.{Bytes}
 use Rattle.dots.specs.Answer.{numberOf}
 use Rattle.dots.specs.declared.Answer.the-variants.{Done}
+use Rattle.dots.specs.Names.{Label}
 use Rattle.dots.specs.Dots.{Context}
 use Rattle.dots.specs.Wire.{dotsBytes}
 use Rattle.dots.specs.Entries.{entry}
@@ -16,7 +17,7 @@ use Rattle.keys.specs.Cases.{R1, B7, B70, B8}
 use Rattle.messages.specs.Message.{messageBytes, messageMost}
 use Rattle.messages.specs.Cases.{a1}
 use Rattle.calls.specs.Calls.{Looked, moreFollow, lookupResult}
-use Rattle.calls.specs.Sequence.{Input, addInput, removeInput, messageInput, listInput, pageInput, compactInput, Held, started, resultOf, output, run}
+use Rattle.calls.specs.Sequence.{Input, addInput, removeInput, messageInput, listInput, pageInput, compactInput, Held, started, resultOf, answerOf, output, run}
 use Rattle.calls.specs.Cases.{dot, dotsFrom, adds, removes, takesIn, compacts, room, row, onlyB7, answersOf, shown}
 
 -- room for the longest message
@@ -56,6 +57,17 @@ paged h (start, n) =
     let r = resultOf h (pageInput start [] out) in
     (numberOf (r .answer), r .labels, moreFollow (h .state) (h .used ++ []) start out)
 
+-- bytes on both sides of 20 and of 7E, as the last of a label
+abbrev sides : List Label
+sides = map (λ (b : ℕ). 0x42 ∷ b ∷ []) (0x1F ∷ 0x20 ∷ 0x7E ∷ 0x7F ∷ 0x80 ∷ 0xFF ∷ [])
+
+-- a controller that holds a label with a control byte, (1,1), from before request 5
+abbrev bell : Label
+bell = 0x42 ∷ 0x07 ∷ []
+
+abbrev older : Held
+older = record { state = run fresh (addsLabel B7 [] ∷ []) .state; used = entryKey R1 (entry bell (dot 1 1)) }
+
 pub record LineCases : Type 0 where
   -- "Label of 32 bytes taken, 33: 5."
   pub label-32-33 : answersOf fresh (addsLabel (replicate 32 65) [] ∷ addsLabel (replicate 33 65) [] ∷ []) ≡ 0 ∷ 5 ∷ []
@@ -89,3 +101,11 @@ pub record LineCases : Type 0 where
   pub page-start : map (paged two) ((B7, 14) ∷ (B70, 14) ∷ (B8, 0) ∷ []) ≡ (0, 1, false) ∷ (0, 1, false) ∷ (0, 0, false) ∷ []
   pub page-empty : paged fresh ([], 0) ≡ (0, 0, false)
   pub page-output : output (resultOf two (pageInput [] [] (replicate 27 0))) ≡ onlyB7 1 1
+  -- request 5: "own adds and add messages refuse with 5 any label byte outside 20 to 7E hexadecimal"
+  pub print-own : map (λ (label : Label). answerOf fresh (addsLabel label [])) sides ≡ 5 ∷ 0 ∷ 0 ∷ 5 ∷ 5 ∷ 5 ∷ []
+  pub print-taken : map (λ (label : Label). answerOf fresh (takesIn (add label (dot 2 1) []))) sides ≡ 5 ∷ 0 ∷ 0 ∷ 5 ∷ 5 ∷ 5 ∷ []
+  -- "A store that already holds such a label is not damaged by it and is still listed, looked up and compacted."
+  pub older-listed : map (paged older) (([], 14) ∷ (bell, 0) ∷ []) ≡ (0, 1, false) ∷ (0, 0, false) ∷ []
+  pub older-found : lookupResult (older .state) (older .used) bell ≡ record { answer = Done; start = 0; end = 19; listed = true }
+  pub older-dropped : shown older (adds [] ∷ addsLabel bell (dot 1 1 ∷ []) ∷ removes (dot 1 1 ∷ []) ∷ compacts ∷ [])
+      ≡ record { answers = 0 ∷ 5 ∷ 0 ∷ 0 ∷ []; put-out = []; row-3 = row 0 0; tombstone = []; used = 19; listing = onlyB7 1 2; labels = 1 }

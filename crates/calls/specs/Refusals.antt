@@ -7,7 +7,7 @@ use lib.ListN.{length}
 use Rattle.wire.specs.Lists.{any, member}
 use Rattle.wire.specs.Bytes.{Bytes, compareBytes}
 use Rattle.dots.specs.declared.Dot.{Dot}
-use Rattle.dots.specs.Names.{Name, Label, nameOk, labelOk}
+use Rattle.dots.specs.Names.{Name, Label, nameOk, labelOk, labelPrints}
 use Rattle.dots.specs.Dots.{actorOk, maxCounter, compareDots, contextOk, tombstoneMost}
 use Rattle.dots.specs.Wire.{wholeDots, dotsOf}
 use Rattle.dots.specs.Entries.{Entry}
@@ -27,6 +27,10 @@ badName name = not (nameOk name)
 
 abbrev pub badLabel : Label → Bool
 badLabel label = not (labelOk label)
+
+-- of an own add's label (document 02, request 5): "refuse with 5 any label byte outside 20 to 7E hexadecimal"
+abbrev pub badAddLabel : Label → Bool
+badAddLabel label = not (labelPrints label)
 
 -- of a page's starting label: "an empty one means the front", "Any other starting label that breaks its rule is 5"
 abbrev pub badStart : Label → Bool

@@ -9,11 +9,12 @@ use lib.Dec.{isEq, leb, ltb, eqb, eqb·suc-suc}
 use lib.ListN.{length}
 use borrow.Author.Tests.{leb-true, le-leb, ne-eqb}
 use Rattle.wire.specs.Lists.{then, isLt, all, ascendsFrom, ascends, Ascending}
-use Rattle.wire.specs.Bytes.{zeroAt}
+use Rattle.wire.specs.Bytes.{zeroAt, between}
 use Rattle.wire.proofs.Tests.{decided, both, both-left, both-right}
 use Rattle.wire.proofs.Lists.{ascends-ascending, ascending-ascends}
 use Rattle.wire.proofs.Orders.{isLt-number, number-less}
 use Rattle.dots.specs.declared.Dot.{Dot}
+use Rattle.dots.specs.Names.{Label, textOk, labelMost, labelOk, printLow, prints, labelPrints}
 use Rattle.dots.specs.Dots.{zeroDot, actorMost, maxCounter, compareActors, compareCounters, compareDots, dotOk, ascendingDots}
 use Rattle.dots.proofs.Orders.{dots}
 
@@ -25,6 +26,30 @@ unfolding zeroAt all
 nonzero [] = refl
 nonzero (zero ∷ s) = ne-eqb 0 (suc (length s)) (λ e. omega arith)
 nonzero (suc b ∷ s) = eqb·suc-suc (zeroAt s) (length s) ∙ nonzero s ∙ rw (le-leb 1 (suc b) (omega arith))
+
+-- what prints is not 0
+prints-nonzero : (s : List ℕ) → all prints s ≡ true → all (leb 1) s ≡ true
+unfolding all
+prints-nonzero [] t = refl
+prints-nonzero (b ∷ s) t =
+    let low : leb printLow b ≡ true = search both in
+    rw (le-leb 1 b (omega (arith, leb-true printLow b low)), prints-nonzero s (both-right (prints b) (all prints s) t))
+
+-- a label that prints keeps the rule of labels
+pub prints-ok : (label : Label) → labelPrints label ≡ true → labelOk label ≡ true
+unfolding labelPrints
+prints-ok label t = both-left (labelOk label) (all prints label) t
+
+-- its length and its bytes in one pass decide
+pub prints-is : (label : Label) → labelPrints label ≡ (between 1 labelMost (length label) && all prints label)
+unfolding labelPrints textOk
+prints-is label = by-bytes (between 1 labelMost (length label)) (all (leb 1) label) (all prints label) (prints-nonzero label)
+  where
+    by-bytes : (size nonzero print : Bool) → (print ≡ true → nonzero ≡ true) → ((size && nonzero) && print) ≡ (size && print)
+    by-bytes true nonzero true h = rw (h refl)
+    by-bytes true true false h = refl
+    by-bytes true false false h = refl
+    by-bytes false nonzero print h = refl
 
 -- ---- dots
 

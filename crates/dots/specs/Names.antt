@@ -29,3 +29,18 @@ labelMost = 32
 
 abbrev pub labelOk : Label → Bool
 labelOk = textOk labelMost
+
+-- Document 02, request 5: "own adds and add messages refuse with 5 any label byte outside 20 to 7E hexadecimal". Keys, stores, lookups and the starting
+-- labels of pages keep the rule above: "A store that already holds such a label is not damaged by it and is still listed, looked up and compacted."
+abbrev pub printLow : ℕ
+printLow = 0x20
+
+abbrev pub printHigh : ℕ
+printHigh = 0x7E
+
+abbrev pub prints : ℕ → Bool
+prints = between printLow printHigh
+
+-- a label that an add may have: it keeps the rule of labels, and each of its bytes prints
+unfoldable pub labelPrints : Label → Bool
+labelPrints label = labelOk label && all prints label

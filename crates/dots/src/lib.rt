@@ -5,9 +5,9 @@ ghost use Prim.Native.Nat.{_+_, _≤_};
 ghost use lib.Dec.{isEq};
 ghost use lib.ListN.{length};
 ghost use Rattle.wire.specs.Loans.{before};
-ghost use Rattle.wire.specs.Lists.{isLt};
+ghost use Rattle.wire.specs.Lists.{isLt, all};
 ghost use Rattle.dots.specs.Answer.{numberOf};
-ghost use Rattle.dots.specs.Names.{textOk, nameOk, labelOk};
+ghost use Rattle.dots.specs.Names.{textOk, nameOk, labelOk, prints, labelPrints};
 ghost use Rattle.dots.specs.Dots.{compareDots, dotOk};
 ghost use Rattle.dots.specs.Wire.{dotBytes, dotAt, dotSize};
 
@@ -19,6 +19,10 @@ pub const ACTOR_MOST: u8 = 16;
 pub const NAME_MOST: usize = 16;
 
 pub const LABEL_MOST: usize = 32;
+// The lowest and the highest byte that prints.
+pub const PRINT_LOW: u8 = 0x20;
+
+pub const PRINT_HIGH: u8 = 0x7E;
 // Dots of a context and of the tombstone, at most; bytes of a dot.
 pub const CONTEXT_MOST: usize = 64;
 
@@ -97,6 +101,30 @@ pub fn label_ok(label: &[u8]) -> bool
     ensures { λ r. ⌜ r ≡ labelOk (before label) ⌝ }
 {
     text_ok(LABEL_MOST, label)
+}
+
+// Whether every byte prints.
+fn all_print(text: &[u8]) -> bool
+    ensures { λ r. ⌜ r ≡ all prints (before text) ⌝ }
+{
+    let mut ok = true;
+    let mut i = 0;
+    while i < text.len() {
+        let b = text[i];
+        ok = ok & ((PRINT_LOW <= b) & (b <= PRINT_HIGH));
+        i += 1;
+    }
+    ok
+}
+
+// Whether an add may have the label: it keeps its rule, and every byte prints. No byte that prints is 0.
+pub fn label_prints(label: &[u8]) -> bool
+    ensures { λ r. ⌜ r ≡ labelPrints (before label) ⌝ }
+{
+    if LABEL_MOST < label.len() {
+        return false;
+    }
+    (1 <= label.len()) & all_print(label)
 }
 
 // ---- dots

@@ -25,7 +25,7 @@ use Rattle.dots.specs.Dots.{contextOk}
 use Rattle.dots.specs.Wire.{dotsOf}
 use Rattle.dots.specs.Message.{Message, add, remove, offeredOf}
 use Rattle.dots.proofs.Table.{NoneHolds, none-holds}
-use Rattle.dots.proofs.Rules.{ascending-valid}
+use Rattle.dots.proofs.Rules.{ascending-valid, prints-ok}
 use Rattle.clock.specs.Clock.{rowAt}
 use Rattle.messages.specs.declared.MessageRead.{MessageRead}
 use Rattle.messages.specs.Message.{addKind, messageOk}
@@ -124,7 +124,7 @@ module _ (s : Bytes) (r : MessageRead) (f : Found s r) where
         record {
           state-ok = ok;
           small = small;
-          labelled = search both;
+          labelled = prints-ok label (search both);
           fits = context-ok (search both);
           dot-ok = search both;
           new = not-true _ (search both);

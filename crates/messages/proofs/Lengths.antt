@@ -9,10 +9,11 @@ use borrow.Author.Tests.{leb-true}
 use Rattle.wire.specs.Lists.{all, member, ascends, ascendsFrom}
 use Rattle.wire.proofs.Tests.{both}
 use Rattle.dots.specs.declared.Dot.{Dot}
-use Rattle.dots.specs.Names.{Name, Label, nameMost, labelMost, textOk}
+use Rattle.dots.specs.Names.{Name, Label, nameMost, labelMost, textOk, labelOk, labelPrints}
 use Rattle.dots.specs.Dots.{Context, contextMost, actorOf, dotOf, consecutive, dotOk, ascendingDots}
 use Rattle.dots.specs.Wire.{dotBytes, dotSize}
 use Rattle.dots.specs.Message.{Message, add, remove}
+use Rattle.dots.proofs.Rules.{prints-ok}
 use Rattle.dots.proofs.RoundTrip.{length-dot, length-dots}
 use Rattle.messages.specs.Message.{messageOk, messageBytes, messageMost, counted, contextBytes, addFixed, removeFixed}
 
@@ -29,6 +30,7 @@ pub longest : (name : Name) (m : Message) → messageOk name m ≡ true → leng
 unfolding messageOk textOk
 longest name (add label d ds) ok =
     let n : length name ≤ nameMost = leb-true _ _ (search both) in
+    let text : labelOk label ≡ true = prints-ok label (search both) in
     let l : length label ≤ labelMost = leb-true _ _ (search both) in
     let k : length ds ≤ contextMost = leb-true _ _ (search both) in
     omega (arith, length-add name label d ds)
@@ -45,5 +47,5 @@ abbrev pub longestAdd : Message
 longestAdd = add (replicate labelMost 0x42) (dotOf (actorOf 2) 1) (consecutive (actorOf 1) 1 contextMost)
 
 pub longest-reached : (messageOk longestName longestAdd ≡ true) × (length (messageBytes longestName longestAdd) ≡ messageMost)
-unfolding messageOk textOk all dotOk ascendingDots ascends ascendsFrom member
+unfolding messageOk textOk labelPrints all dotOk ascendingDots ascends ascendsFrom member
 longest-reached = (refl, length-add longestName _ _ _)

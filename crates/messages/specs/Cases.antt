@@ -1,4 +1,4 @@
--- Worked cases of document 01, "Both sides of the line": set "R1", label "B7".
+-- Worked cases of document 01, "Both sides of the line", and of document 02, request 5: set "R1", label "B7".
 use Prim.Native.Nat.{ℕ}
 use mathlib.Core.Path.{_≡_}
 use mathlib.Core.List.{List, [], _∷_}
@@ -68,9 +68,18 @@ refusedCases =
     ∷ (messageBytes setR1 (add labelB7 (dotOf (actorOf 3) 2) (dotOf (actorOf 3) 2 ∷ [])), 6)
     ∷ []
 
+-- an add of a label that ends with this byte
+abbrev endsWith : ℕ → Bytes
+endsWith b = messageBytes setR1 (add (0x42 ∷ b ∷ []) (dotOf (actorOf 1) 1) [])
+
+-- document 02, request 5: "refuse with 5 any label byte outside 20 to 7E hexadecimal"
+abbrev pub printCases : List (Bytes × ℕ)
+printCases = (endsWith 0x1F, 5) ∷ (endsWith 0x20, 0) ∷ (endsWith 0x7E, 0) ∷ (endsWith 0x7F, 5) ∷ (endsWith 0xFF, 5) ∷ []
+
 -- all of them, and "The longest message becomes 642 bytes"
 pub record MessageCases : Type 0 where
   pub M1 : Holds m1
   pub A1 : Holds a1
   pub refused : Answers refusedCases
+  pub prints : Answers printCases
   pub longest : messageMost ≡ 642

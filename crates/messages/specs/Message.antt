@@ -6,14 +6,14 @@ use mathlib.Core.List.{_∷_, _++_}
 use lib.ListN.{length}
 use Rattle.wire.specs.Lists.{member}
 use Rattle.wire.specs.Bytes.{Bytes}
-use Rattle.dots.specs.Names.{Name, nameMost, labelMost, nameOk, labelOk}
+use Rattle.dots.specs.Names.{Name, nameMost, labelMost, nameOk, labelPrints}
 use Rattle.dots.specs.Dots.{Context, compareDots, dotOk, contextMost, contextOk}
 use Rattle.dots.specs.Wire.{dotBytes, dotsBytes, dotSize}
 use Rattle.dots.specs.Message.{Message, add, remove}
 
--- the rules of set name and label (refusal 5)
+-- the rules of set name and label (refusal 5); document 02, request 5: "add messages refuse with 5 any label byte outside 20 to 7E hexadecimal"
 abbrev pub namesOk : Name → Message → Bool
-namesOk name (add label dot context) = nameOk name && labelOk label
+namesOk name (add label dot context) = nameOk name && labelPrints label
 namesOk name (remove context) = nameOk name
 
 -- the rules of dot and context, and "an add's context has its own dot" (refusal 6)

@@ -130,14 +130,14 @@ fn shape_ok(s: &[u8], l: Layout) -> bool
     ((l.kind == b'a') | (l.kind == b'r')) & (l.context.at + l.context.len == s.len())
 }
 
-// Whether set name and label keep their rules.
+// Whether set name and label keep their rules; an add has a label that prints.
 fn names_ok(s: &[u8], l: Layout) -> bool
     requires { ⌜ Small l ⌝ }
     ensures { λ r. ⌜ r ≡ namesOk (nameAt (before s) l) (messageAt (before s) l) ⌝ }
 {
     let name = dots::name_ok(wire::part(s, l.name.at, l.name.len));
     if l.kind == b'a' {
-        return name & dots::label_ok(wire::part(s, l.label.at, l.label.len));
+        return name & dots::label_prints(wire::part(s, l.label.at, l.label.len));
     }
     name
 }

@@ -18,6 +18,7 @@ use Rattle.dots.specs.Wire.{dotsOf, dotSize}
 use Rattle.dots.specs.Entries.{entry}
 use Rattle.dots.specs.Message.{add}
 use Rattle.dots.proofs.Table.{NoneHolds, none-holds}
+use Rattle.dots.proofs.Rules.{prints-ok}
 use Rattle.clock.specs.Row.{windowWidth}
 use Rattle.clock.specs.Clock.{sees, rowAt}
 use Rattle.clock.proofs.Clocks.{rows-well}
@@ -111,7 +112,7 @@ module _ (st : State) (label context : Bytes) (lent : Lent) (size : Sized st) (r
           record {
             state-ok = state-kept st store (passed .0);
             small = omega arith;
-            labelled = not-false _ (passed .1 .0);
+            labelled = prints-ok label (not-false _ (passed .1 .0));
             fits = context-fits context (neither-left (badContext context) (hasDot (ownNext st) (dotsOf context)) (passed .1 .1 .0));
             dot-ok = next-ok st store u (passed .1 .1 .1 .1 .0);
             new = neither-right (badContext context) (hasDot (ownNext st) (dotsOf context)) (passed .1 .1 .0);
@@ -176,7 +177,7 @@ module _ (st : State) (store label context out : Bytes) (a : Answer) (k : ℕ) (
               close = not-false _ (n .1 .1 .1 .1 .1 .0);
               few = ltb-false _ _ (n .1 .1 .1 .1 .1 .1 .0);
             };
-            labelled = not-false _ (n .1 .0);
+            labelled = prints-ok label (not-false _ (n .1 .0));
             room-for = λ f. ltb-false _ _ fills;
             sized = size;
           };

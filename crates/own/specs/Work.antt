@@ -22,7 +22,7 @@ use Rattle.calls.specs.declared.State.{State}
 use Rattle.calls.specs.declared.Outcome.{Outcome}
 use Rattle.calls.specs.State.{nameOf}
 use Rattle.calls.specs.Effect.{stateOf, storeOf}
-use Rattle.calls.specs.Refusals.{badLabel, badContext, hasDot}
+use Rattle.calls.specs.Refusals.{badAddLabel, badContext, hasDot}
 use Rattle.steps.specs.Tests.{aheadOf, ownNext, earlyRefusals, Answers, MayApply, MayRemove, removedState, applied}
 use Rattle.judging.specs.Judging.{LowPart}
 use Rattle.messages.specs.Message.{addFixed, removeFixed}
@@ -33,7 +33,7 @@ use Rattle.calls.specs.Calls.{ownAddRefusals, ownRemoveRefusals}
 abbrev pub addEarly : Bool → Actor → List ℕ → Bytes → Bytes → Refusals
 addEarly damage own words label context =
     let base = rowAt words (own .number) .base in
-    earlyRefusals damage (badLabel label) (badContext context || hasDot (dotOf own (base + 1)) (dotsOf context)) (any (aheadOf own base) (dotsOf context)) (eqb base maxCounter)
+    earlyRefusals damage (badAddLabel label) (badContext context || hasDot (dotOf own (base + 1)) (dotsOf context)) (any (aheadOf own base) (dotsOf context)) (eqb base maxCounter)
 
 -- the same of an own remove
 abbrev pub removeEarly : Bool → Actor → List ℕ → Bytes → Refusals

@@ -66,7 +66,7 @@ fn add_early(
     ensures { λ r. ⌜ r ≡ firstOf (addEarly damage own (before words) (before label) (before context)) ⌝ }
 {
     let base = steps::own_base(words, own);
-    let named = dots::label_ok(label);
+    let named = dots::label_prints(label);
     let bad = steps::context_bad(context);
     let taken = steps::has_next(own, base, context);
     let ahead = steps::own_ahead(own, base, context);

@@ -6,7 +6,7 @@ use crate::check::Sound;
 use crate::dot::{actor_keeps_rule, dots, is_context, Dot};
 use crate::effect::Effect;
 use crate::form::{Dead, Form};
-use crate::keys::{label_keeps_rule, name_keeps_rule};
+use crate::keys::{label_prints, name_keeps_rule};
 use crate::message::Message;
 use crate::store;
 use crate::tombstone::{self, Tombstone};
@@ -65,7 +65,7 @@ fn try_own_add<F: Form>(
     out: &mut [u8],
 ) -> Result<usize, u8> {
     let sound = Sound::<F>::read(block, store, label)?;
-    if !label_keeps_rule(label) {
+    if !label_prints(label) {
         return Err(BAD_NAME);
     }
     let own = own_dot(&sound);

@@ -4,7 +4,7 @@
 use crate::answer::{BAD_DOT, BAD_NAME, BAD_SHAPE, DONE, OUTPUT_SHORT};
 use crate::calls::Wrote;
 use crate::dot::{actor_keeps_rule, Dot};
-use limits::{KEY_END, KEY_FRONT, KEY_MAX, KEY_MIDDLE, LABEL_MAX, NAME_MAX};
+use limits::{KEY_END, KEY_FRONT, KEY_MAX, KEY_MIDDLE, LABEL_MAX, NAME_MAX, PRINT_MAX, PRINT_MIN};
 
 /// Magic and version.
 const FRONT: [u8; KEY_FRONT] = [2, 1];
@@ -18,6 +18,12 @@ pub fn name_keeps_rule(name: &[u8]) -> bool {
 
 pub fn label_keeps_rule(label: &[u8]) -> bool {
     (1..=LABEL_MAX).contains(&label.len()) && !label.contains(&0)
+}
+
+/// Whether an add may have the label: within its rule, which no byte that prints breaks.
+pub fn label_prints(label: &[u8]) -> bool {
+    let prints = |byte: &u8| (PRINT_MIN..=PRINT_MAX).contains(byte);
+    (1..=LABEL_MAX).contains(&label.len()) && label.iter().all(prints)
 }
 
 /// The bytes before the label in every label key of a set.

@@ -2,7 +2,7 @@
 
 use crate::answer::{BAD_DOT, BAD_NAME, BAD_SHAPE, BAD_VERSION, DONE, NO_MARK};
 use crate::dot::{dots, is_context, Dot};
-use crate::keys::{label_keeps_rule, name_keeps_rule};
+use crate::keys::{label_prints, name_keeps_rule};
 use limits::{DOT_SIZE, MESSAGE_HEAD};
 
 const MARK: &[u8] = b"PTL";
@@ -50,7 +50,7 @@ impl<'a> Message<'a> {
 
     /// The rules of the fields: answers 5, 6.
     fn judge(&self) -> Result<(), u8> {
-        let label_is_good = self.add.is_none_or(|(label, _)| label_keeps_rule(label));
+        let label_is_good = self.add.is_none_or(|(label, _)| label_prints(label));
         if !name_keeps_rule(self.name) || !label_is_good {
             return Err(BAD_NAME);
         }

@@ -2,9 +2,9 @@
 
 use baseline::*;
 use limits::{
-    ACTOR_MAX, DOT_SIZE, KEY_MAX, MESSAGE_MAX, NUMBER_SIZE, ROW_SIZE, STATE_ACTOR_AT,
-    STATE_CLOCK_AT, STATE_COUNT_AT, STATE_NAME_AT, STATE_SIZE, STATE_TOMBSTONE_AT, STATE_USED_AT,
-    STORE_MAX,
+    ACTOR_MAX, DOT_SIZE, KEY_MAX, MESSAGE_MAX, NUMBER_SIZE, PRINT_MAX, PRINT_MIN, ROW_SIZE,
+    STATE_ACTOR_AT, STATE_CLOCK_AT, STATE_COUNT_AT, STATE_NAME_AT, STATE_SIZE, STATE_TOMBSTONE_AT,
+    STATE_USED_AT, STORE_MAX,
 };
 use std::fmt::Debug;
 use std::marker::PhantomData;
@@ -39,6 +39,8 @@ for_each_form! {
     n1
     o1
     labels_and_contexts_of_either_side
+    labels_that_print
+    an_older_label_is_listed_and_dropped
     messages_that_are_none
     own_dots_to_come
     a_store_that_is_full
@@ -360,6 +362,39 @@ fn labels_and_contexts_of_either_side<F: Form>() {
     assert_eq!(one.remove(&dots_of(2, 1..=65)).0, 6);
     assert_eq!(one.add(B7, &dots_of(2, 1..=64)).0, 0);
     assert_eq!(one.row(2), (64, 0));
+}
+
+/// Each byte as the first, one between and the last of a label.
+fn labels_that_print<F: Form>() {
+    for (byte, at) in (0..=255).flat_map(|byte| [0, 1, 2].map(|at| (byte, at))) {
+        let mut label = *b"B07";
+        label[at] = byte;
+        let added = if (PRINT_MIN..=PRINT_MAX).contains(&byte) {
+            0
+        } else {
+            5
+        };
+        let message = add_bytes(&label, (1, 1), &[]);
+        assert_eq!(Rack::<F>::new(1).add(&label, &[]).0, added, "{label:?}");
+        assert_eq!(read_message(&message).answer, added, "{label:?}");
+        assert_eq!(Rack::<F>::new(2).take(&message), added, "{label:?}");
+        let kept = if byte == 0 { 5 } else { 0 };
+        assert_eq!(Rack::<F>::new(1).lookup(&label).answer, kept, "{label:?}");
+        assert_eq!(Rack::<F>::new(1).page(&label, 0).0, kept, "{label:?}");
+    }
+}
+
+/// A label that an older version took: its key is that of B7 with another byte.
+fn an_older_label_is_listed_and_dropped<F: Form>() {
+    let mut one = Rack::<F>::new(1);
+    one.add(B7, &[]);
+    one.store[7] = 7;
+    assert_eq!(one.list(), (entry(b"B\x07", &[(1, 1)]), 1));
+    assert!(one.lookup(b"B\x07").listed && !one.lookup(B7).listed);
+    assert_eq!(one.add(b"B\x07", &[(1, 1)]).0, 5);
+    assert_eq!(one.add(B7, &[(1, 1)]).0, 0);
+    assert_eq!(one.compact(), 0);
+    assert_eq!(one.list(), (entry(B7, &[(1, 2)]), 1));
 }
 
 fn messages_that_are_none<F: Form>() {

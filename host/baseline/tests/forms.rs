@@ -3,8 +3,8 @@
 use baseline::*;
 use limits::{
     ACTORS, ACTOR_MAX, CONTEXT_DOTS_MAX, DOT_SIZE, KEY_MAX, LABEL_MAX, MESSAGE_MAX, NAME_MAX,
-    NUMBER_SIZE, ROW_SIZE, STATE_CLOCK_AT, STATE_COUNT_AT, STATE_SIZE, STATE_TOMBSTONE_AT,
-    STATE_USED_AT, TOMBSTONE_DOTS_MAX, WINDOW,
+    NUMBER_SIZE, PRINT_MAX, PRINT_MIN, ROW_SIZE, STATE_CLOCK_AT, STATE_COUNT_AT, STATE_SIZE,
+    STATE_TOMBSTONE_AT, STATE_USED_AT, TOMBSTONE_DOTS_MAX, WINDOW,
 };
 use std::collections::BTreeSet;
 
@@ -32,10 +32,13 @@ impl Random {
         from[self.below(from.len())]
     }
 
-    /// Bytes that are not 00, many of them such that a search for a 00 could mistake them.
+    /// Bytes that are not 00: all of them print, or many are such that a search for a 00 could
+    /// mistake them.
     fn bytes(&mut self, number: usize) -> Vec<u8> {
+        const PRINT: [u8; 8] = [PRINT_MIN, b'!', b'0', b'A', b'a', b'e', b'}', PRINT_MAX];
         const HARD: [u8; 8] = [0x01, 0x02, 0x7F, 0x80, 0x81, 0xFE, 0xFF, b'e'];
-        (0..number).map(|_| self.pick(&HARD)).collect()
+        let from = self.pick(&[PRINT, HARD]);
+        (0..number).map(|_| self.pick(&from)).collect()
     }
 }
 
@@ -114,6 +117,10 @@ struct Given {
     message: Vec<u8>,
     out: usize,
 }
+
+/// The calls of `all_calls` that add a key.
+const OWN_ADD: usize = 0;
+const TAKE_IN: usize = 2;
 
 /// What every call of a form answers and leaves.
 fn all_calls<F: Calls>(rack: &Rack, given: &Given) -> Vec<(String, Rack, Vec<u8>)> {
@@ -224,7 +231,7 @@ fn given(random: &mut Random, made: &Made) -> Given {
     let mut label = stored.map_or(b"x".to_vec(), |(label, _)| label.clone());
     match random.below(6) {
         0 => drop(label.pop()),
-        1 => label.push(1),
+        1 => label.push(random.pick(&[1, PRINT_MIN])),
         2 => label = random.bytes(8),
         _ => (),
     }
@@ -250,7 +257,7 @@ fn given(random: &mut Random, made: &Made) -> Given {
 #[test]
 fn random_stores_get_the_same_from_all_forms() {
     let mut random = Random(1);
-    let mut answers = BTreeSet::new();
+    let (mut answers, mut added) = (BTreeSet::new(), [0; 2]);
     for _ in 0..20_000 {
         let made = made(&mut random);
         let given = given(&mut random, &made);
@@ -259,9 +266,13 @@ fn random_stores_get_the_same_from_all_forms() {
         for other in [all_calls::<Tuned>, all_calls::<Fastest>] {
             assert_eq!(plain, other(&made.rack, &given), "{:?}", made.rack);
         }
+        for (call, added) in [OWN_ADD, TAKE_IN].into_iter().zip(&mut added) {
+            *added += usize::from(plain[call].1.store != made.rack.store);
+        }
         answers.extend(plain.into_iter().map(|(said, _, _)| said));
     }
     assert!(answers.len() > 5_000, "{}", answers.len());
+    assert!(added.iter().all(|number| *number > 100), "{added:?}");
 }
 
 /// Changes a byte, the used length, a row of the clock, or the order or number of these keys.
@@ -370,15 +381,15 @@ fn finds_every_label<F: Calls>() {
             let mut rack = Rack::new(b"R1");
             rack.set_row(1, 9, 0);
             let label = |last: u8| [vec![b'a'; same], vec![last; length - same]].concat();
-            let keys: Vec<Vec<u8>> = [2, 4, 6]
+            let keys: Vec<Vec<u8>> = [b'2', b'4', b'6']
                 .into_iter()
                 .flat_map(|last| [1, 3].map(|counter| key(b"R1", &label(last), (1, counter))))
                 .collect();
             rack.put_keys(&keys, KEY_MAX);
-            for last in 1..=7 {
+            for last in b'1'..=b'7' {
                 let Rack { block, store } = &rack;
                 let found = F::lookup(block, store, &label(last));
-                let before = usize::from(last - 1) / 2 * 2 * keys[0].len();
+                let before = usize::from(last - b'1') / 2 * 2 * keys[0].len();
                 let here = if last % 2 == 0 { 2 * keys[0].len() } else { 0 };
                 assert_eq!(
                     (found.at, found.len),

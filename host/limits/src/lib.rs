@@ -22,6 +22,9 @@ listed! {
     NAME_MAX: usize = 16;
     /// The longest label.
     LABEL_MAX: usize = 32;
+    /// The lowest and the highest byte of a label that an add may have.
+    PRINT_MIN: u8 = 0x20;
+    PRINT_MAX: u8 = 0x7E;
     /// The most dots in a context.
     CONTEXT_DOTS_MAX: usize = 64;
     /// The most dots in the tombstone.

@@ -31,7 +31,8 @@ const WORDS: [&str; ANSWERS] = [
     "version other than 1",
     "a message's kind is unknown, its fields run past the end or bytes are left over; or bytes \
      given as a key are none",
-    "set name, label, or an actor given to set-up or to a key, breaks its rule",
+    "set name, label, or an actor given to set-up or to a key, breaks its rule; or the label of \
+     an add does not print",
     "a dot, a context or a key's counter breaks its rule, or an add's context has its own dot",
     "message is for another set",
     "an offered dot of this controller's own actor, but for the one an own add takes, is above \

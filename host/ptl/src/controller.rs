@@ -71,7 +71,7 @@ impl Controller {
         &self.store
     }
 
-    /// Adds a label and removes the context's dots. Gives the add message.
+    /// Adds a label, which must print, and removes the context's dots. Gives the add message.
     pub fn own_add(&mut self, label: &Label, context: &[Dot]) -> Result<Vec<u8>, Answer> {
         let mut out = vec![0; MESSAGE_MAX];
         let context = dots_to_bytes(context);

@@ -56,7 +56,8 @@ pub fn dots_to_bytes(dots: &[Dot]) -> Vec<u8> {
     dots.iter().flat_map(|dot| dot.to_bytes()).collect()
 }
 
-/// A label; 1 to `limits::LABEL_MAX` bytes, none of them 0, keep the rule.
+/// A label; 1 to `limits::LABEL_MAX` bytes, none of them 0, keep the rule. Adds take it if every
+/// byte is `limits::PRINT_MIN` to `limits::PRINT_MAX`; calls that only read take any.
 #[derive(Clone, PartialEq, Eq, PartialOrd, Ord, Hash, Debug)]
 pub struct Label(pub Vec<u8>);
 

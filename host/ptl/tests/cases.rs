@@ -1,6 +1,6 @@
 //! The cases of the rules ("Both sides of the line") and the slips, through the safe wrapper.
 
-use limits::{MESSAGE_MAX, STATE_SIZE, STORE_MAX};
+use limits::{MESSAGE_MAX, PRINT_MAX, PRINT_MIN, STATE_SIZE, STORE_MAX};
 use ptl::{
     read_key, read_message, write_key, Actor, Answer, Controller, Counter, Dot, Entry, Key, Label,
     Message, SetName, State,
@@ -241,6 +241,44 @@ fn labels_and_contexts_of_either_side() {
         longest.map(|message| message.len()),
         Ok(6 + 3 + 33 + 9 + 577)
     );
+}
+
+/// Each byte as the first, one between and the last of a label.
+#[test]
+fn labels_that_print() {
+    for (byte, at) in (0..=255).flat_map(|byte| [0, 1, 2].map(|at| (byte, at))) {
+        let mut label = b"B07".to_vec();
+        label[at] = byte;
+        let message = add(&label, dot(1, 1), &[]);
+        let label = Label(label);
+        let added = match byte {
+            PRINT_MIN..=PRINT_MAX => None,
+            _ => Some(Answer::BadName),
+        };
+        assert_eq!(fresh(1).own_add(&label, &[]).err(), added, "{label:?}");
+        assert_eq!(read_message(&message).err(), added, "{label:?}");
+        assert_eq!(fresh(2).take_in(&message).err(), added, "{label:?}");
+        let kept = (byte == 0).then_some(Answer::BadName);
+        assert_eq!(fresh(1).lookup(&label).err(), kept, "{label:?}");
+        assert_eq!(fresh(1).page(&label, &mut []).err(), kept, "{label:?}");
+    }
+}
+
+/// A label that an older version took: its key is that of B7 with another byte.
+#[test]
+fn an_older_label_is_listed_and_dropped() {
+    let mut one = fresh(1);
+    one.own_add(&b7(), &[]).expect("accepted");
+    let (state, mut store) = one.into_parts();
+    store[7] = 7;
+    let mut one = Controller::of_parts(state, store);
+    let bell = Label::from("B\x07");
+    assert_eq!(listed(&one), [entry("B\x07", &[dot(1, 1)])]);
+    assert_eq!(one.lookup(&bell).map(|found| found.listed), Ok(true));
+    assert_eq!(one.own_add(&bell, &[dot(1, 1)]), Err(Answer::BadName));
+    one.own_add(&b7(), &[dot(1, 1)]).expect("accepted");
+    assert_eq!(one.compact(), Ok(()));
+    assert_eq!(listed(&one), [entry("B7", &[dot(1, 2)])]);
 }
 
 #[test]

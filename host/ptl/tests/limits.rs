@@ -2,8 +2,8 @@
 //! are the same, and so are the answers.
 
 use limits::{
-    ACTOR_MAX, CONTEXT_DOTS_MAX, HEADER, KEY_MAX, LABEL_MAX, MESSAGE_MAX, NAME_MAX, STORE_MAX,
-    TOMBSTONE_DOTS_MAX, WINDOW,
+    ACTOR_MAX, CONTEXT_DOTS_MAX, HEADER, KEY_MAX, LABEL_MAX, MESSAGE_MAX, NAME_MAX, PRINT_MAX,
+    PRINT_MIN, STORE_MAX, TOMBSTONE_DOTS_MAX, WINDOW,
 };
 use ptl::{Actor, Answer, Controller, Dot, Label, SetName};
 use std::collections::BTreeSet;
@@ -99,6 +99,8 @@ fn the_numbers_are_those_of_the_rules() {
         ("ACTOR_MAX", 16),
         ("NAME_MAX", 16),
         ("LABEL_MAX", 32),
+        ("PRINT_MIN", 0x20),
+        ("PRINT_MAX", 0x7E),
         ("CONTEXT_DOTS_MAX", 64),
         ("TOMBSTONE_DOTS_MAX", 128),
         ("STORE_MAX", 65_536),
@@ -139,6 +141,8 @@ fn the_second_program_has_the_same_limits() {
         ACTOR_MAX,
         NAME_MAX,
         LABEL_MAX,
+        PRINT_MIN,
+        PRINT_MAX,
         CONTEXT_DOTS_MAX,
         TOMBSTONE_DOTS_MAX,
         STORE_MAX,
@@ -233,6 +237,10 @@ fn the_product_takes_what_is_at_a_limit_and_refuses_what_is_past_it() {
     let mut one = controller(STORE_MAX);
     let past = one.own_add(&label(LABEL_MAX + 1), &[]);
     assert_eq!(past, Err(Answer::BadName));
+    for byte in [PRINT_MIN - 1, PRINT_MAX + 1] {
+        let past = one.own_add(&Label(vec![byte]), &[]);
+        assert_eq!(past, Err(Answer::BadName), "{byte:02X}");
+    }
     let past = one.own_remove(&dots(1, CONTEXT_DOTS_MAX + 1));
     assert_eq!(past, Err(Answer::BadDot));
     let past = one.own_remove(&[Dot::from((2, WINDOW + 1))]);
@@ -241,6 +249,9 @@ fn the_product_takes_what_is_at_a_limit_and_refuses_what_is_past_it() {
     let longest = one.own_add(&label(LABEL_MAX), &dots(1, CONTEXT_DOTS_MAX));
     assert_eq!(longest.map(|message| message.len()), Ok(MESSAGE_MAX));
     assert_eq!(one.state().used(), KEY_MAX as u64);
+    for byte in [PRINT_MIN, PRINT_MAX] {
+        assert!(one.own_add(&Label(vec![byte]), &[]).is_ok(), "{byte:02X}");
+    }
     assert_eq!(controller(STORE_MAX + 1).compact(), Err(Answer::Damaged));
 }
 

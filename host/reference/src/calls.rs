@@ -4,7 +4,7 @@
 use crate::answer::*;
 use crate::dot::{read_context, Actor, Dot};
 use crate::held::{Held, State};
-use crate::keys::{label_keeps_rule, name_keeps_rule};
+use crate::keys::{label_keeps_rule, label_prints, name_keeps_rule};
 use crate::limits::TOMBSTONE_DOTS_MAX;
 use crate::message::{parse, Message};
 use std::collections::{BTreeMap, BTreeSet};
@@ -155,7 +155,7 @@ fn try_own_add(
     out: &mut [u8],
 ) -> Result<(State, u64), u8> {
     let held = Held::read(state, store).ok_or(DAMAGED)?;
-    if !label_keeps_rule(label) {
+    if !label_prints(label) {
         return Err(BAD_NAME);
     }
     let context = read_context(context).ok_or(BAD_DOT)?;

@@ -2,7 +2,7 @@
 
 use crate::answer::{BAD_DOT, BAD_NAME, BAD_SHAPE, DONE, OUTPUT_SHORT};
 use crate::dot::{Actor, Counter, Dot};
-use crate::limits::{LABEL_MAX, NAME_MAX};
+use crate::limits::{LABEL_MAX, NAME_MAX, PRINT_MAX, PRINT_MIN};
 
 /// Magic byte and version byte.
 const FRONT: [u8; 2] = [2, 1];
@@ -56,6 +56,12 @@ pub fn name_keeps_rule(name: &[u8]) -> bool {
 /// Label: 1 to `LABEL_MAX` bytes, none of them zero.
 pub fn label_keeps_rule(label: &[u8]) -> bool {
     (1..=LABEL_MAX).contains(&label.len()) && !label.contains(&0)
+}
+
+/// The label of an add (document 02, request 5): within its rule, no byte outside 20 to 7E hexadecimal.
+pub fn label_prints(label: &[u8]) -> bool {
+    let prints = |byte: &u8| (PRINT_MIN..=PRINT_MAX).contains(byte);
+    label_keeps_rule(label) && label.iter().all(prints)
 }
 
 /// The bytes of a label key.

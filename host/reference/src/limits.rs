@@ -8,6 +8,9 @@ pub const ACTOR_MAX: u8 = 16;
 pub const NAME_MAX: usize = 16;
 /// The longest label.
 pub const LABEL_MAX: usize = 32;
+/// The lowest and the highest byte of a label that an add may have.
+pub const PRINT_MIN: u8 = 0x20;
+pub const PRINT_MAX: u8 = 0x7E;
 /// The most dots in a context.
 pub const CONTEXT_DOTS_MAX: usize = 64;
 /// The most dots in the tombstone.

@@ -2,7 +2,7 @@
 
 use crate::answer::{BAD_DOT, BAD_NAME, BAD_SHAPE, BAD_VERSION, DONE, NO_MARK};
 use crate::dot::{read_context, Dot};
-use crate::keys::{label_keeps_rule, name_keeps_rule};
+use crate::keys::{label_prints, name_keeps_rule};
 use crate::limits::DOT_SIZE;
 
 const MARK: [u8; 3] = *b"PTL";
@@ -87,7 +87,7 @@ fn cut<'a>(rest: &mut &'a [u8], length: usize) -> Option<&'a [u8]> {
 
 /// The rules of the fields: 5 for name and label, then 6 for the dot and the context.
 fn judge(parts: &Parts) -> Result<Message, u8> {
-    let label_fits = parts.add.is_none_or(|(label, _)| label_keeps_rule(label));
+    let label_fits = parts.add.is_none_or(|(label, _)| label_prints(label));
     if !name_keeps_rule(parts.name) || !label_fits {
         return Err(BAD_NAME);
     }

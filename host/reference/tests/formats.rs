@@ -190,6 +190,7 @@ fn structure_comes_before_rules() {
         (add_message(b"R1", &[b'x'; 33], (0, 0), &[]), 5),
         (add_message(b"R1", &[b'x'; 255], (1, 1), &[]), 5),
         (add_message(b"R1", b"\x00", (1, 1), &[]), 5),
+        (add_message(b"R1", b"B\x7F", (0, 0), &[]), 5),
         (remove_message(b"R1", &dots_of(1, 1..=65)), 6),
         (remove_message(b"R1", &dots_of(1, 1..=255)), 6),
         (add_message(b"R1", b"B7", (1, 1), &[(1, 1)]), 6),

@@ -143,6 +143,61 @@ fn longest_label() {
     assert_eq!(other.take(&with(32)), 0);
 }
 
+/// Document 02, request 5: each byte as the first, one between and the last of a label.
+#[test]
+fn labels_that_print() {
+    for (byte, at) in (0..=255).flat_map(|byte| [0, 1, 2].map(|at| (byte, at))) {
+        let mut label = *b"B07";
+        label[at] = byte;
+        let added = if (0x20..=0x7E).contains(&byte) { 0 } else { 5 };
+        let message = add_message(b"R1", &label, (1, 1), &[]);
+        assert_eq!(Bench::new(1).add(&label, &[]).0, added, "{label:?}");
+        assert_eq!(read_message(&message).answer, added, "{label:?}");
+        assert_eq!(Bench::new(2).take(&message), added, "{label:?}");
+        let kept = if byte == 0 { 5 } else { 0 };
+        assert_eq!(Bench::new(1).lookup(&label).answer, kept, "{label:?}");
+        assert_eq!(Bench::new(1).page(&label, 0).0, kept, "{label:?}");
+        let written = write_key(KeyKind::Label, b"R1", &label, 1, 1, &mut [0; 64]);
+        assert_eq!(written.0, kept, "{label:?}");
+        let read = read_key(&key(&label, (1, 1))).answer;
+        assert_eq!(read, if byte == 0 { 4 } else { 0 }, "{label:?}");
+    }
+}
+
+/// "A store that already holds such a label is not damaged by it and is still listed, looked up
+/// and compacted."
+#[test]
+fn labels_that_an_older_version_took() {
+    let (bell, last) = (b"B\x07", b"\xFF\x7F");
+    let mut bench = Bench::new(1);
+    bench.set_row(1, 2, 0);
+    let keys = [key(bell, (1, 1)), key(last, (1, 2))];
+    bench.set_used(&keys.concat());
+    let entries = [entry(bell, &[(1, 1)]), entry(last, &[(1, 2)])];
+    assert_eq!(bench.list(), (0, entries.concat(), 2));
+    assert_eq!(bench.page(b"", 14).1.bytes, entries[0]);
+    assert_eq!(bench.page(bell, 14).1.bytes, entries[1]);
+    assert!(bench.lookup(bell).listed && bench.lookup(last).listed);
+    // What it would say of them is refused, by itself and by others; their dots are not.
+    assert_eq!(bench.add(bell, &[(1, 1)]).0, 5);
+    assert_eq!(bench.add(b"B7", &[(1, 1)]).0, 0);
+    assert_eq!(bench.take(&remove_message(b"R1", &[(1, 2)])), 0);
+    assert!(!bench.lookup(bell).listed && !bench.lookup(last).listed);
+    assert_eq!(bench.compact(), 0);
+    assert_eq!(bench.used(), key(b"B7", (1, 3)));
+}
+
+/// An add that was refused leaves a gap in its actor's row; a remove of its dot closes it.
+#[test]
+fn a_remove_closes_the_gap_of_a_refused_add() {
+    let mut bench = Bench::new(1);
+    assert_eq!(bench.take(&add_message(b"R1", b"\x07", (2, 1), &[])), 5);
+    let late = add_message(b"R1", B7, (2, 65), &[]);
+    assert_eq!(bench.take(&late), 10);
+    assert_eq!(bench.take(&remove_message(b"R1", &[(2, 1)])), 0);
+    assert_eq!(bench.take(&late), 0);
+}
+
 #[test]
 fn longest_context() {
     let mut bench = Bench::new(1);

@@ -7,7 +7,7 @@ use reference::limits::CONTEXT_DOTS_MAX;
 use reference::*;
 use std::collections::{BTreeMap, BTreeSet};
 
-const LABELS: [&[u8]; 6] = [b"B7", b"B70", b"B8", b"A", &[255; 32], b"\x01"];
+const LABELS: [&[u8]; 6] = [b"B7", b"B70", b"B8", b"A", &[b'~'; 32], b" "];
 const NAME: &[u8] = b"R1";
 /// Outputs of pages: too short for some entries, for one or two, for all.
 const ROOMS: [usize; 3] = [25, 60, 20_000];

@@ -1,8 +1,8 @@
 //! The input and the expected output of the gate's program, `crates/console`, against `record`.
 //!
-//! `stdin` has two parts, cut by a mark: worked cases, written with their output from document 01,
-//! and a recording, which `record stdin` writes. `record stdout` gives the output of both: so this
-//! program is held to the cases, and the product to all of it. To write the recording anew, keep
+//! `stdin` has two parts, cut by a mark: worked cases, written with their output from documents 01
+//! and 02, and a recording, which `record stdin` writes. `record stdout` gives the output of both: so
+//! this program is held to the cases, and the product to all of it. To write the recording anew, keep
 //! `stdin` up to the mark and append to it; of `record stdout < stdin` the lines of the cases must
 //! be those that stand there.
 use std::collections::{BTreeMap, BTreeSet};

@@ -2,18 +2,32 @@
 
 use super::random::Random;
 use limits::{
-    ACTORS, ACTOR_MAX, DOT_SIZE, LABEL_MAX, NAME_MAX, STORE_MAX, TOMBSTONE_DOTS_MAX, WINDOW,
+    ACTORS, ACTOR_MAX, DOT_SIZE, LABEL_MAX, NAME_MAX, PRINT_MAX, PRINT_MIN, STORE_MAX,
+    TOMBSTONE_DOTS_MAX, WINDOW,
 };
 
+/// Labels that print.
 const LABELS: [&[u8]; 9] = [
     b"B7",
     b"B70",
     b"B8",
     b"B",
     b"A",
-    b"\x01",
-    b"\xff\xff",
+    &[PRINT_MIN],
+    &[PRINT_MAX, PRINT_MAX],
     &[b'x'; LABEL_MAX - 1],
+    &[PRINT_MAX; LABEL_MAX],
+];
+/// Labels within their rule that do not print: a store may hold them, no add may have them.
+const UNPRINTED: [&[u8]; 9] = [
+    b"\x01",
+    &[PRINT_MIN - 1],
+    &[PRINT_MIN - 1, b'B'],
+    &[b'B', PRINT_MAX + 1],
+    &[b'B', PRINT_MAX + 1, b'7'],
+    b"\x80B7",
+    b"B\xff7",
+    b"\xff\xff",
     &[0xff; LABEL_MAX],
 ];
 const BAD_LABELS: [&[u8]; 7] = bad(&[b'x'; LABEL_MAX + 1]);
@@ -67,20 +81,48 @@ const NUMBERS: [u64; 32] = [
     u64::MAX,
 ];
 
-/// A label that keeps its rule.
+/// A label that prints.
 pub fn label(random: &mut Random) -> Vec<u8> {
     if random.chance(80) {
         return random.pick(&LABELS).to_vec();
     }
     let length = random.between(1, LABEL_MAX);
-    (0..length).map(|_| random.pick(b"B7a\x01")).collect()
+    (0..length).map(|_| random.pick(b"B7a ")).collect()
 }
 
-/// A label that may break its rule.
-pub fn any_label(random: &mut Random) -> Vec<u8> {
-    match random.chance(6) {
-        true => random.pick(&BAD_LABELS).to_vec(),
+/// A label within its rule that does not print: one byte of it, or each is any.
+fn unprinted(random: &mut Random) -> Vec<u8> {
+    let mut label = label(random);
+    let at = random.below(label.len());
+    match random.below(10) {
+        0..=4 => return random.pick(&UNPRINTED).to_vec(),
+        5..=8 => (),
+        _ => label.fill_with(|| random.between(1, 255) as u8),
+    }
+    label[at] = random.pick(&[1, PRINT_MIN - 1, PRINT_MAX + 1, 0x80, 0xff]);
+    label
+}
+
+/// Whether a label keeps its rule and does not print.
+pub fn is_unprinted(label: &[u8]) -> bool {
+    let prints = |byte: &u8| (PRINT_MIN..=PRINT_MAX).contains(byte);
+    (1..=LABEL_MAX).contains(&label.len()) && !label.contains(&0) && !label.iter().all(prints)
+}
+
+/// A label that a store may hold.
+pub fn stored_label(random: &mut Random) -> Vec<u8> {
+    match random.chance(20) {
+        true => unprinted(random),
         false => label(random),
+    }
+}
+
+/// A label that may break its rule, or not print.
+pub fn any_label(random: &mut Random) -> Vec<u8> {
+    match random.below(100) {
+        0..=5 => random.pick(&BAD_LABELS).to_vec(),
+        6..=10 => unprinted(random),
+        _ => label(random),
     }
 }
 

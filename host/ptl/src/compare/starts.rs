@@ -134,7 +134,7 @@ fn label_keys(
             (_, Some(actor)) => dots::seen(random, state, actor),
             _ => break,
         };
-        let key = label_key(name, &pools::label(random), dot);
+        let key = label_key(name, &pools::stored_label(random), dot);
         let added = key.len();
         if length + added <= STORE_MAX && keys.insert(key) {
             length += added;

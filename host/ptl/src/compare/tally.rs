@@ -1,5 +1,6 @@
-//! How often each answer of each call was met, and either end of a page.
+//! How often each answer of each call was met, either end of a page, and labels that do not print.
 
+use super::pools::is_unprinted;
 use crate::script::{Command, Reply, Worded};
 use limits::ANSWERS;
 
@@ -9,6 +10,12 @@ const CALLS: &[(&str, &[u8])] = Command::TABLE;
 /// What a page says of those that follow it, by whether more do.
 const ENDS: [&str; 2] = ["ended", "more"];
 
+/// What happens to labels within their rule that do not print.
+const UNPRINTED: [&str; 2] = [
+    "add of a label that does not print",
+    "lookup that finds a label that does not print",
+];
+
 /// The counts of a run, and how many calls it is to have.
 pub struct Tally {
     wanted: u64,
@@ -17,6 +24,8 @@ pub struct Tally {
     met: [[u64; ANSWERS]; CALLS.len()],
     /// Accepted pages that none follows, and those that more follow.
     pages: [u64; 2],
+    /// Of labels that do not print: own adds answered 5, and lookups that found keys.
+    unprinted: [u64; 2],
 }
 
 impl Tally {
@@ -27,6 +36,7 @@ impl Tally {
             held: 0,
             met: [[0; ANSWERS]; CALLS.len()],
             pages: [0; 2],
+            unprinted: [0; 2],
         }
     }
 
@@ -39,6 +49,15 @@ impl Tally {
         }
         if let (0, Reply::Paged(paged)) = (answer, reply) {
             self.pages[usize::from(paged.more)] += 1;
+        }
+        match (command, reply) {
+            (Command::Add { label, .. }, _) if answer == 5 && is_unprinted(label) => {
+                self.unprinted[0] += 1;
+            }
+            (Command::Lookup { label }, Reply::Looked(looked)) if is_unprinted(label) => {
+                self.unprinted[1] += u64::from(looked.found.len > 0);
+            }
+            _ => (),
         }
     }
 
@@ -56,7 +75,8 @@ impl Tally {
         self.wanted.saturating_sub(self.done)
     }
 
-    /// The answers that a call can give and did not, and the ends that no page had.
+    /// The answers that a call can give and did not, the ends that no page had, and what did not
+    /// happen to labels that do not print.
     pub fn unmet(&self) -> Vec<String> {
         let mut unmet = Vec::new();
         for ((call, answers), met) in CALLS.iter().zip(&self.met) {
@@ -66,6 +86,9 @@ impl Tally {
         let ends = ENDS.iter().zip(&self.pages);
         let missing = ends.filter(|(_, count)| **count == 0);
         unmet.extend(missing.map(|(end, _)| format!("page {end}")));
+        let unprinted = UNPRINTED.iter().zip(&self.unprinted);
+        let missing = unprinted.filter(|(_, count)| **count == 0);
+        unmet.extend(missing.map(|(what, _)| what.to_string()));
         unmet
     }
 
@@ -83,6 +106,10 @@ impl Tally {
         }
         let [ended, more] = self.pages;
         lines.push(format!("accepted pages: {more} more, {ended} ended"));
+        let [refused, found] = self.unprinted;
+        lines.push(format!(
+            "labels that do not print: {refused} own adds refused, {found} lookups that find one"
+        ));
         lines.push(format!("held to the rule of demand 3: {}", self.held));
         lines
     }

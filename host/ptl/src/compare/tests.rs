@@ -10,7 +10,7 @@ use crate::console::console;
 use crate::engine::{Engine, Fault, Faulty, Second, FASTEST, PLAIN, TUNED};
 use crate::script::{line_to, parse, Command, Line, Reply};
 use limits::TOMBSTONE_DOTS_MAX;
-use ptl::calls::Paged;
+use ptl::calls::{Looked, Paged, Span, Wrote};
 
 /// The report of a run that must find a difference.
 fn found(engines: Engines) -> String {
@@ -100,6 +100,8 @@ fn a_fault_in_the_output_is_shown() {
 fn a_fault_at_a_boundary_is_shown() {
     // The adds that fill the store to its end.
     shows(Fault::StoreOneShort, "answers or counts differ", 20);
+    shows(Fault::OnePastPrints, "answers or counts differ", 2);
+    shows(Fault::UnprintedNotFound, "answers or counts differ", 2);
     // All slots but one, their number, a base, a set-up and the remove.
     let most = TOMBSTONE_DOTS_MAX + 12;
     shows(Fault::TombstoneOneShort, "answers or counts differ", most);
@@ -184,6 +186,40 @@ fn a_tally_tells_what_was_not_met() {
     assert!(unmet(&tally, "page ended") && !unmet(&tally, "page more"));
     tally.count(&page, &paged(0, false));
     assert!(!unmet(&tally, "page ended") && !unmet(&tally, "page more"));
+}
+
+#[test]
+fn a_tally_tells_what_happens_to_labels_that_do_not_print() {
+    let mut tally = Tally::new(10);
+    let unmet = |tally: &Tally, what: &str| {
+        let what = format!("{what} a label that does not print");
+        tally.unmet().contains(&what)
+    };
+    let mut add = |label: &[u8], answer| {
+        let (label, context, out) = (label.to_vec(), Vec::new(), 0);
+        let add = Command::Add {
+            label,
+            context,
+            out,
+        };
+        tally.count(&add, &Reply::Wrote(Wrote { answer, written: 0 }));
+        unmet(&tally, "add of")
+    };
+    assert!(add(b"B7", 5) && add(b"B\0\x7f", 5) && add(b"B\x7f", 1));
+    assert!(!add(b"B\x7f", 5));
+    let mut lookup = |label: &[u8], len| {
+        let label = label.to_vec();
+        let found = Span { at: 0, len };
+        let (answer, listed) = (0, false);
+        let looked = Looked {
+            answer,
+            found,
+            listed,
+        };
+        tally.count(&Command::Lookup { label }, &Reply::Looked(looked));
+        unmet(&tally, "lookup that finds")
+    };
+    assert!(lookup(b"B7", 19) && lookup(b"B\x1f", 0) && !lookup(b"B\x1f", 19));
 }
 
 #[test]

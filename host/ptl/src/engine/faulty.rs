@@ -2,7 +2,7 @@
 
 use super::Engine;
 use crate::script::{Command, Rack, Reply};
-use limits::{ACTOR_MAX, TOMBSTONE_DOTS_MAX, WINDOW};
+use limits::{ACTOR_MAX, PRINT_MAX, TOMBSTONE_DOTS_MAX, WINDOW};
 use ptl::calls::Wrote;
 use ptl::{Actor, Answer, Dot, State};
 use std::cell::Cell;
@@ -26,6 +26,10 @@ pub enum Fault {
     PageOneShort,
     /// A label all of whose dots are removed is looked up as listed.
     DeadLabelListed,
+    /// An own add takes the byte after the last that prints for that one.
+    OnePastPrints,
+    /// A label that does not print is looked up as one that breaks its rule.
+    UnprintedNotFound,
     /// A shift of the window by its whole width leaves it as it was.
     WholeShiftLost,
     /// A message with bytes left over is read.
@@ -88,6 +92,10 @@ impl<'a> Faulty<'a> {
         let last = match self.has(Fault::StoreOneShort) && !full {
             true => rack.store.pop(),
             false => None,
+        };
+        let command = match self.has(Fault::OnePastPrints) {
+            true => &printing(command),
+            false => command,
         };
         let reply = self.sound.run(rack, command, out);
         rack.store.extend(last);
@@ -202,6 +210,16 @@ impl<'a> Faulty<'a> {
     }
 }
 
+/// An own add with the last byte that prints in place of the one after it.
+fn printing(command: &Command) -> Command {
+    let mut command = command.clone();
+    if let Command::Add { label, .. } = &mut command {
+        let past = label.iter_mut().filter(|byte| **byte == PRINT_MAX + 1);
+        past.for_each(|byte| *byte = PRINT_MAX);
+    }
+    command
+}
+
 /// Writes a byte after these.
 fn run_on(written: usize, out: &mut [u8]) {
     if let Some(byte) = out.get_mut(written) {
@@ -237,6 +255,12 @@ impl Engine for Faulty<'_> {
             Command::Take { .. } => Reply::Answered(self.taken_in(rack, command)),
             Command::Compact => self.compact(rack),
             Command::ReadMessage { bytes } => self.read_message(rack, bytes),
+            Command::Lookup { label }
+                if self.has(Fault::UnprintedNotFound) && label.iter().any(|b| *b > PRINT_MAX) =>
+            {
+                let label = Vec::new();
+                self.sound.run(rack, &Command::Lookup { label }, out)
+            }
             Command::Page { .. } if self.has(Fault::PageOneShort) => {
                 let short = out.len().saturating_sub(1);
                 self.sound.run(rack, command, &mut out[..short])

@@ -35,10 +35,12 @@ use world::World;
 type Block = fn(&mut Recording);
 
 /// The fixed blocks, and what each is about.
-const BLOCKS: [(&str, Block); 11] = [
+const BLOCKS: [(&str, Block); 13] = [
     ("Set-ups", edges::set_ups),
     ("Lines that break the form", edges::broken_lines),
     ("Own calls and lookups", edges::own_calls),
+    ("Labels that print", edges::labels),
+    ("A store with labels that do not print", edges::older_store),
     ("Pages", edges::pages),
     ("Windows", edges::windows),
     ("Largest counters", edges::largest_counters),

@@ -41,8 +41,11 @@ const BAD_CONTEXTS: [&[(u8, u64)]; 9] = [
     &[(1, LARGEST)],
 ];
 
+/// Bytes on both sides of those that print.
+const SIDES: [u8; 6] = [0x1F, 0x20, 0x7E, 0x7F, 0x80, 0xFF];
+
 /// Bytes of the message that `messages` starts from, and what is put in their place.
-const FAULTS: [(usize, u8); 21] = [
+const FAULTS: [(usize, u8); 23] = [
     (0, b'Q'),
     (2, b'l'),
     (3, 1),
@@ -54,6 +57,8 @@ const FAULTS: [(usize, u8); 21] = [
     (8, b'2'),
     (9, 0),
     (10, 0),
+    (10, 0x7F),
+    (11, 0x1F),
     (12, 0),
     (12, 17),
     (20, 0),
@@ -125,9 +130,9 @@ pub fn set_ups(recording: &mut Recording) {
         node.list(64);
         node.show();
     }
-    let sent = node.add(&[255; 32], &dots(&dots_of(3, 1..=MOST)));
+    let sent = node.add(&[b'~'; 32], &dots(&dots_of(3, 1..=MOST)));
     node.take(&sent.written);
-    node.lookup(&[255; 32]);
+    node.lookup(&[b'~'; 32]);
 }
 
 /// Lines that break the form.
@@ -143,7 +148,7 @@ pub fn broken_lines(recording: &mut Recording) {
 /// Labels, contexts and outputs of own calls and lookups.
 pub fn own_calls(recording: &mut Recording) {
     let mut node = recording.start(2, 1, b"R1", 256);
-    let labels: [&[u8]; 6] = [b"B7", b"", b"B\x007", &[66; 32], &[66; 33], b"\x01"];
+    let labels: [&[u8]; 6] = [b"B7", b"", b"B\x007", &[66; 32], &[66; 33], b" "];
     for label in labels {
         node.add(label, b"");
         node.lookup(label);
@@ -170,7 +175,7 @@ fn outputs(node: &mut Node) {
         let rooms = [(0, 0), (add - 1, remove - 1), (add, remove), (AMPLE, AMPLE)];
         for (add, remove) in rooms {
             node.remove_into(&context, remove);
-            node.add_into(b"\x01", &context, add);
+            node.add_into(b" ", &context, add);
         }
     }
     let length = node.listing().len();
@@ -179,11 +184,62 @@ fn outputs(node: &mut Node) {
     }
 }
 
+/// Labels with each of these bytes first, between and last: added, in a message, and looked up.
+pub fn labels(recording: &mut Recording) {
+    let mut node = recording.start(2, 1, b"R1", 512);
+    let all = SIDES
+        .into_iter()
+        .flat_map(|byte| [0, 1, 2].map(|at| (byte, at)));
+    for (counter, (byte, at)) in (1..).zip(all) {
+        let mut label = *b"B07";
+        label[at] = byte;
+        let message = add_message(b"R1", &label, (2, counter), &[]);
+        node.add(&label, b"");
+        node.read_message(&message);
+        node.take(&message);
+        node.lookup(&label);
+    }
+    node.list(AMPLE);
+    node.add(&[b'B'; 32], b"");
+    node.add(&[&[b'B'; 31][..], &[7]].concat(), b"");
+    // Other refusals before and after this one.
+    node.add(b"\x07", &dots(&[(1, 99)]));
+    node.take(&add_message(b"R2", b"\x07", (2, 99), &[]));
+    node.take(&add_message(b"R1", b"\x07", (0, 0), &[(0, 0)]));
+    node.take(&[&add_message(b"R1", b"\x07", (2, 1), &[])[..], &[0]].concat());
+}
+
+/// A store that an older version filled: labels that do not print before and after one that does.
+pub fn older_store(recording: &mut Recording) {
+    let mut node = recording.start(3, 1, b"R1", 128);
+    for label in [b"A7", b"B7", b"C7"] {
+        node.add(label, b"");
+    }
+    // The first byte of the first label, and both of the last.
+    for poke in ["byte 6 7", "byte 44 255", "byte 45 127"] {
+        node.say(&format!("poke {poke}"));
+    }
+    node.list(AMPLE);
+    for start in [&b""[..], b"\x077", b"B7", b"\xFF\x7F", b"\xFF"] {
+        node.page(start, 14);
+        node.lookup(start);
+    }
+    node.add(b"\x077", &dots(&[(1, 1)]));
+    node.add(b"A7", &dots(&[(1, 1)]));
+    node.take(&add_message(b"R1", b"\xFF\x7F", (2, 1), &[]));
+    node.take(&remove_message(b"R1", &[(2, 1)]));
+    node.take(&remove_message(b"R1", &[(1, 3)]));
+    node.lookup(b"\xFF\x7F");
+    node.list(AMPLE);
+    node.compact();
+    node.list(AMPLE);
+}
+
 /// Pages of labels with one, two and three dots and of one whose dot is removed.
 pub fn pages(recording: &mut Recording) {
     let mut node = recording.start(3, 1, b"R1", 256);
     node.page(b"", 0);
-    let labels: [&[u8]; 8] = [b"B8", b"B7", b"A", b"B7", b"C", b"A", b"B7", &[255; 32]];
+    let labels: [&[u8]; 8] = [b"B8", b"B7", b"A", b"B7", b"C", b"A", b"B7", &[b'~'; 32]];
     for label in labels {
         node.add(label, b"");
     }
@@ -198,9 +254,21 @@ fn page_outputs(node: &mut Node) {
     for out in [0, 21, 22, 23, 53, 54, 66, 67, 110, 111, AMPLE] {
         node.page(b"", out);
     }
-    let starts: [&[u8]; 13] = [
-        b"\x01", b"@", b"A", b"A0", b"B6", b"B7", b"B70", b"B8", b"B9", b"C", &[254; 32],
-        &[255; 31], &[255; 32],
+    let starts: [&[u8]; 14] = [
+        b"\x01",
+        b"@",
+        b"A",
+        b"A0",
+        b"B6",
+        b"B7",
+        b"B70",
+        b"B8",
+        b"B9",
+        b"C",
+        &[b'}'; 32],
+        &[b'~'; 31],
+        &[b'~'; 32],
+        &[255; 32],
     ];
     for start in starts {
         node.page(start, 13);

@@ -5,8 +5,11 @@ use crate::common::{add_message, dots, key, remove_message, Xorshift, LARGEST};
 use crate::recording::{Node, Recording, Reply, AMPLE, CONTROLLERS};
 use reference::limits::CONTEXT_DOTS_MAX;
 
-const LABELS: [&[u8]; 6] = [b"B7", b"B70", b"B8", b"A", &[255; 32], b"\x01"];
-const BAD_LABELS: [&[u8]; 4] = [b"", b"B\x007", &[66; 33], b"\x00"];
+const LABELS: [&[u8]; 6] = [b"B7", b"B70", b"B8", b"A", &[b'~'; 32], b" "];
+/// Labels that break their rule, and some that do not print.
+const BAD_LABELS: [&[u8]; 7] = [
+    b"", b"B\x007", &[66; 33], b"\x00", b"\x01", b"B\x7F", &[255; 32],
+];
 const NAMES: [&[u8]; 3] = [b"R1", b"RACK-NORTH-AISLE", b"\xff"];
 /// Counters at which a rule changes its mind.
 const COUNTERS: [u64; 12] = [1, 2, 3, 62, 63, 64, 65, 66, 128, 0, LARGEST - 1, LARGEST];
@@ -120,7 +123,7 @@ impl World<'_> {
     }
 
     fn label(&self, random: &mut Xorshift) -> &'static [u8] {
-        if self.wild && random.chance(6) {
+        if self.wild && random.chance(9) {
             return random.pick::<&[u8]>(&BAD_LABELS);
         }
         random.pick::<&[u8]>(&LABELS)
