@@ -35,7 +35,7 @@ typedef char ptl_size_t_has_8_bytes[sizeof(size_t) == 8 ? 1 : -1];
 
 /* The version of this interface: 100 * major + minor. A higher minor number adds functions and macros and keeps all that was there, the
    block too. Under another major number a function, a limit, a format or the block may be another: see docs/INTEGRATION.md, "Versions". */
-#define PTL_VERSION 300
+#define PTL_VERSION 400
 
 /* The version that the library has: PTL_VERSION of the header that goes with it. */
 uint32_t ptl_version(void);

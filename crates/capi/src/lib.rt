@@ -5,7 +5,7 @@ ghost use Rattle.capi.specs.Left.{takeInLeft, compactLeft};
 ghost use Rattle.capi.specs.Promise.{interfaceVersion, SetsUp, OwnAdds, OwnRemoves, Changes, ListsLabels, PagesLabels, LooksUp, WritesKeyOf, ReadsKeyIn, ReadsMessageIn};
 
 // The version of this interface: 100 times its major number and its minor number.
-const VERSION: u32 = 300;
+const VERSION: u32 = 400;
 
 // Tells the version of the interface.
 #[no_mangle]
