@@ -1,5 +1,5 @@
-/* The first day of two controllers: cases A1, A2, R1 and C1 of document 01 through the C interface, every byte compared; and a listing read
-   in pages. Exits 1 on the first difference.
+/* The first day of two controllers: cases A1, A2, R1 and C1 of document 01 through the C interface, every byte compared, with a remove that
+   comes twice; and a listing read in pages. Exits 1 on the first difference.
 
      cc -std=c99 -Iinclude -o first_day examples/first_day.c target/staticlib/libcapi.a
 */
@@ -197,6 +197,12 @@ int main(void)
     holds(&two, 0, none, 0);
     lists(&two, none, 0, 0, 0);
 
+    /* R1's remove comes again: tombstone {(1,1)}, a dot without a key; after compaction it is empty. */
+    take_in(&two, remove_1_1, sizeof remove_1_1);
+    holds(&two, 0, dot_1_1, sizeof dot_1_1);
+    compact(&two);
+    holds(&two, 0, none, 0);
+
     /* C1: B7 has dots (1,1) and (2,1); remove {(1,1)}: B7 stays with (2,1). */
     set_up(&one, 1);
     add(&one, none, 0, add_1_1, sizeof add_1_1);
@@ -211,6 +217,6 @@ int main(void)
     take_in(&one, add_c, sizeof add_c);
     lists_in_pages(&one, lists_three, sizeof lists_three, 3);
 
-    printf("A1, A2, R1 and C1 as in document 01; a listing in pages\n");
+    printf("A1, A2, R1 and C1 as in document 01, R1 with its remove twice; a listing in pages\n");
     return 0;
 }

@@ -35,7 +35,7 @@ typedef char ptl_size_t_has_8_bytes[sizeof(size_t) == 8 ? 1 : -1];
 
 /* The version of this interface: 100 * major + minor. A higher minor number adds functions and macros and keeps all that was there, the
    block too. Under another major number a function, a limit, a format or the block may be another: see docs/INTEGRATION.md, "Versions". */
-#define PTL_VERSION 300
+#define PTL_VERSION 400
 
 /* The version that the library has: PTL_VERSION of the header that goes with it. */
 uint32_t ptl_version(void);
@@ -183,7 +183,8 @@ struct ptl_bytes {
 uint8_t ptl_lookup(const uint8_t *state, size_t state_len, const uint8_t *store, size_t store_len, const uint8_t *label, size_t label_len,
                    struct ptl_bytes *found, bool *listed);
 
-/* Drops each key whose dot is in the tombstone, and takes those dots out of the tombstone. Freed bytes of the store become 0. Answers 1. */
+/* Drops each key whose dot is in the tombstone, and leaves the tombstone empty: the clock goes on keeping the removed dots out. Freed bytes
+   of the store become 0. Answers 1. */
 uint8_t ptl_compact(uint8_t *state, size_t state_len, uint8_t *store, size_t store_len);
 
 /* ---- keys and messages */

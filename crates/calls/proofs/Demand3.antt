@@ -16,13 +16,14 @@ use Rattle.messages.specs.Read.{messageOf}
 use Rattle.store.specs.Cut.{storeBytes}
 use Rattle.listing.specs.Listing.{lineSize, listingBytes}
 use Rattle.replica.specs.Page.{pageAfter, pageMore}
-use Rattle.replica.specs.Machine.{compact, effect, listing, found, messagesOf as machineMessages}
+use Rattle.replica.specs.Machine.{compact, effect, compacted, listing, found, messagesOf as machineMessages}
 use Rattle.replica.specs.Rule.{History, noHistory, noted, historyFrom, pairs, livePairs, ruleListing, OneLabelPerDot}
 use Rattle.replica.specs.Demand3.{Life, endOf as lifeEnd, accepted, trafficOf as lifeTraffic, Follows as MachineFollows, Agree as MachineAgree}
 use Rattle.replica.proofs.Listings.{fewer}
 use Rattle.replica.proofs.RowClock.{controllers-follow, controllers-agree}
 use Rattle.calls.specs.State.{clockModel, nameOf, view}
-use Rattle.calls.specs.Calls.{Looked, listRefusals, listResult, moreFollow, lookupResult}
+use Rattle.calls.specs.Effect.{tombstoneOf, stateOf}
+use Rattle.calls.specs.Calls.{Result, Looked, listRefusals, listResult, moreFollow, lookupResult}
 use Rattle.calls.specs.Sequence.{Input, addInput, removeInput, messageInput, readInput, listInput, pageInput, lookupInput, compactInput, Held, started, resultOf, accepts, output, heldAfter, step, callOf, events, messageBytesOf, traffic}
 use Rattle.calls.specs.Demand3.{Accepted, Follows, Agree, Controlled, messagesOf, trafficOf, endOf, Demand3}
 use Rattle.calls.proofs.Reading.{used-after, viewOf}
@@ -74,6 +75,11 @@ module _ (h : Held) (sized : Sized h) where
       ap (λ r. heldAfter r .used) (w .result-is) ∙ used-after (h .state) store (effect clockModel (view (h .state) store) compact)
       ∙ ap (λ m. storeBytes (nameOf (h .state)) (m .keys)) left
 
+-- the tombstone after a compaction is empty
+pub compacted-tombstone : (h : Held) (past : Bytes) → Accepted h (compactInput past) → step h (compactInput past) .state .tombstone ≡ tombstoneOf []
+unfolding resultOf effect compacted stateOf
+compacted-tombstone h past acc = ap (λ (r : Result). r .state .tombstone) (compact-accepted (h .state) (h .used ++ past) acc .result-is)
+
 -- ---- through the bytes
 
 follows-held : (name : Name) (ms : List Message) (x : SizedHeld) → nameOf (x .0 .state) ≡ name → MachineFollows clockModel controller x ms → Follows name ms (x .0)
@@ -91,6 +97,7 @@ follows-held name ms x n f = record {
       compacted-used (x .0) (x .1) past acc
       ∙ ap (λ m. storeBytes m (viewOf (step (x .0) (compactInput past)) .keys)) n
       ∙ ap (storeBytes name) (f .compaction-is single (compactInput past) (record { call-is = refl; done = acc }));
+  compaction-empties = compacted-tombstone (x .0);
 }
 
 -- of no entries, a set's keys are those of any other
@@ -109,6 +116,7 @@ agree-held ms x y n a = record {
       let q = listed-is (y .0) (y .1) past′ out′ acc′ in
       (p .0 ∙ ap listingBytes (a .same-listing single) ∙ sym (q .0), p .1 ∙ ap length (a .same-listing single) ∙ sym (q .1));
   same-clock = λ past past′ acc acc′. ap (λ w. record { words = w }) (a .same-clock (compactInput past) (compactInput past′) (record { call-is = refl; done = acc }) (record { call-is = refl; done = acc′ }));
+  same-tombstone = λ past past′ acc acc′. compacted-tombstone (x .0) past acc ∙ sym (compacted-tombstone (y .0) past′ acc′);
   same-store = λ single past past′ acc acc′. (sizes past past′ (bytes single past past′ acc acc′), bytes single past past′ acc acc′);
 }
   where

@@ -1,34 +1,32 @@
 -- An accepted call leaves an undamaged state; so every state that calls reach from an accepted set-up is undamaged. Assumes nothing.
-use Prim.Native.Nat.{ℕ, _+_, _-_, _*_, _≤_}
+use Prim.Native.Nat.{ℕ, _+_, _-_, _≤_}
 use mathlib.Core.Path.{_≡_, refl, sym, ap, _∙_, subst}
-use mathlib.Core.Bool.{Bool, true, false, not}
+use mathlib.Core.Bool.{Bool, true, false}
 use mathlib.Core.List.{List, [], _∷_, _++_}
 use native.Mathlib.Omega.{arith}
 use lib.Dec.{leb, eqb}
-use lib.ListN.{length, take, replicate, length-append, length-take}
+use lib.ListN.{length, take, replicate, length-append}
 use lib.Seq.{length-take-le, take-at, take-append-seam, drop-append-seam}
 use borrow.Author.Needs.{needs}
-use borrow.Author.Tests.{ltb-false, leb-true, le-leb, eqb-true, eqb-false, not-false}
-use Rattle.wire.specs.Lists.{keep, consIf, any, all, member, ascends, insertAll}
+use borrow.Author.Tests.{ltb-false, le-leb, eqb-true, eqb-false, not-false}
+use Rattle.wire.specs.Lists.{any, all, ascends, insertAll}
 use Rattle.wire.specs.Bytes.{Bytes}
 use Rattle.wire.proofs.Tests.{both, neither-left, neither-right, neither}
-use Rattle.dots.specs.declared.Dot.{Dot}
 use Rattle.dots.specs.Answer.{numberOf}
 use Rattle.dots.specs.Names.{Name, nameMost, nameOk, textOk}
-use Rattle.dots.specs.Dots.{actorOk, compareDots, ascendingDots, tombstoneMost}
-use Rattle.dots.specs.Wire.{dotsBytes, dotsAt, dotsOf, dotSize}
+use Rattle.dots.specs.Dots.{actorOk, ascendingDots}
+use Rattle.dots.specs.Wire.{dotsBytes, dotsAt, dotsOf}
 use Rattle.dots.specs.Entries.{Entry, compareEntries}
 use Rattle.dots.proofs.Table.{none-holds}
-use Rattle.dots.proofs.Loops.{length-dotsOf}
 use Rattle.clock.specs.Row.{windowWidth}
 use Rattle.clock.specs.Clock.{clockOk, zeroClock, clockWords}
 use Rattle.clock.proofs.Clocks.{row-empty, zero-formed, rows-tested}
 use Rattle.keys.specs.Entry.{entryKey}
 use Rattle.store.specs.Cut.{storeBytes, keysAfter}
 use Rattle.store.specs.Valid.{storeMost, storeOk, usedOk}
-use Rattle.replica.specs.Machine.{Call, live, droppedDots, apply, compact, compacted, effect}
+use Rattle.replica.specs.Machine.{Call, live, apply, compact, compacted, effect}
 use Rattle.calls.specs.declared.State.{State}
-use Rattle.calls.specs.State.{clockModel, Machine, nameOf, tombstoneDots, entries, view}
+use Rattle.calls.specs.State.{clockModel, Machine, nameOf, entries, view}
 use Rattle.calls.specs.Damage.{tombstoneOk, stateNameOk, damaged}
 use Rattle.calls.specs.Effect.{keysPart, stateOf}
 use Rattle.calls.specs.Refusals.{badActor, badName, storeFull}
@@ -51,15 +49,6 @@ pub record Left (r : Result) : Type 0 where
   pub whole : Undamaged (r .state) (r .store)
   pub words : length (r .state .clock .words) ≡ clockWords
 
-keep-length : {A : Type 0} (p : A → Bool) (xs : List A) → length (keep p xs) ≤ length xs
-unfolding keep
-keep-length p [] = omega arith
-keep-length {A} p (x ∷ xs) = by (p x) (keep-length p xs)
-  where
-    by : (b : Bool) → length (keep p xs) ≤ length xs → length (consIf b x (keep p xs)) ≤ length (x ∷ xs)
-    by true ih = omega arith
-    by false ih = omega arith
-
 module _ (st : State) (store : Bytes) (u : Undamaged st store) where
   -- the keys of an undamaged store take the used length
   keys-size : length (storeBytes (nameOf st) (entries st store)) ≡ st .used
@@ -72,13 +61,6 @@ module _ (st : State) (store : Bytes) (u : Undamaged st store) where
       let fits = ltb-false (length store) (st .used + length (entryKey (nameOf st) e)) (search neither) in
       omega (arith, insert-size (nameOf st) e (entries st store), keys-size)
   insert-fits (e ∷ f ∷ es) few room = absurd (omega arith)
-
-  tombstone-short : length (tombstoneDots st) ≤ tombstoneMost
-  unfolding tombstoneOk
-  tombstone-short =
-      let t = u .tombstone in
-      let most : st .tombstone .count ≤ tombstoneMost = leb-true _ _ (search both) in
-      omega (arith, length-dotsOf (take (st .tombstone .count * dotSize) (st .tombstone .bytes)), length-take (st .tombstone .count * dotSize) (st .tombstone .bytes))
 
   module _ (words : length (st .clock .words) ≡ clockWords) (out message : Bytes) where
     applied-leaves : (call : Call) → Applies st store call → Left (performed st store out call message)
@@ -98,9 +80,8 @@ module _ (st : State) (store : Bytes) (u : Undamaged st store) where
     unfolding effect compacted view stateOf
     compacted-leaves =
         let m : Machine = view st store in
-        let fewer = keep-length (λ (d : Dot). not (member compareDots d (droppedDots clockModel m))) (tombstoneDots st) in
         record {
-          whole = whole-undamaged st store u (compacted clockModel m) (compacted-whole m (view-whole st store u words)) refl (omega (arith, tombstone-short)) (omega (arith, keep-size (nameOf st) (live clockModel m) (entries st store), keys-size, used-fits st store u));
+          whole = whole-undamaged st store u (compacted clockModel m) (compacted-whole m (view-whole st store u words)) refl (omega arith) (omega (arith, keep-size (nameOf st) (live clockModel m) (entries st store), keys-size, used-fits st store u));
           words = words;
         }
 

@@ -1,16 +1,15 @@
 -- The dots and entries that a call's effect leaves keep their rules. Assumes nothing.
-use mathlib.Core.Path.{_≡_}
+use mathlib.Core.Path.{_≡_, refl}
 use mathlib.Core.Logic.{⊎-elim}
-use mathlib.Core.Bool.{Bool, true, not}
+use mathlib.Core.Bool.{Bool, true}
 use mathlib.Core.List.{List}
-use Rattle.wire.specs.Lists.{keep, all, member}
+use Rattle.wire.specs.Lists.{keep, all}
 use Rattle.wire.proofs.Lists.{keep-member, all-member, member-all, insertAll-member}
-use Rattle.dots.specs.declared.Dot.{Dot}
 use Rattle.dots.specs.Dots.{Context, compareDots, dotOk}
 use Rattle.dots.specs.Entries.{Entry, compareEntries}
 use Rattle.dots.proofs.Orders.{dots, entries}
 use Rattle.keys.specs.Entry.{entryOk}
-use Rattle.replica.specs.Machine.{seen, live, droppedDots, apply, compacted}
+use Rattle.replica.specs.Machine.{seen, live, apply, compacted}
 use Rattle.calls.specs.State.{clockModel, Machine}
 
 pub all-kept : {A : Type 0} (p q : A → Bool) (xs : List A) → all p xs ≡ true → all p (keep q xs) ≡ true
@@ -36,8 +35,5 @@ module _ (m : Machine) (rules : Rules m) where
   }
 
   pub compacted-rules : Rules (compacted clockModel m)
-  unfolding compacted
-  compacted-rules = record {
-    tombstone = all-kept dotOk (λ (d : Dot). not (member compareDots d (droppedDots clockModel m))) (m .tombstone) (rules .tombstone);
-    keys = all-kept entryOk (live clockModel m) (m .keys) (rules .keys);
-  }
+  unfolding compacted all
+  compacted-rules = record { tombstone = refl; keys = all-kept entryOk (live clockModel m) (m .keys) (rules .keys) }

@@ -2,14 +2,14 @@
 use Prim.Native.Nat.{ℕ, suc, zero, _+_, _-_, _*_, _≤_, Ordering, Ordering·lt, Ordering·eq, Ordering·gt}
 use mathlib.Core.Path.{_≡_, refl, ap₂}
 use mathlib.Core.Logic.{inl, inr, ⊎-elim}
-use mathlib.Core.Bool.{Bool, true, false, not}
-use mathlib.Core.List.{List, [], _∷_, Memᴰ·map}
+use mathlib.Core.Bool.{Bool, true, false}
+use mathlib.Core.List.{List, [], _∷_, List·Memᴰ·not-nil, Memᴰ·map}
 use native.Mathlib.Omega.{arith}
 use lib.Dec.{T, eqb}
 use lib.ListN.{length, replicate, length-append, length-drop, length-replicate}
 use lib.Seq.{drop-at}
 use borrow.Author.Tests.{le-leb, eqb-true}
-use Rattle.wire.specs.Lists.{_∈_, keep, all, member, insert, place, consIf, Ascending}
+use Rattle.wire.specs.Lists.{_∈_, keep, all, insert, place, consIf, Ascending}
 use Rattle.wire.specs.Bytes.{Bytes}
 use Rattle.wire.proofs.Tests.{both, both-left, both-right, pass, holds}
 use Rattle.wire.proofs.Lists.{member-append, keep-member, all-member, member-all, insertAll-member, ascending-insertAll, ascending-keep}
@@ -28,7 +28,7 @@ use Rattle.keys.specs.Entry.{entryOk, entryKey}
 use Rattle.store.specs.Cut.{storeBytes, endToEnd}
 use Rattle.store.specs.Valid.{storeMost, storeOk}
 use Rattle.store.proofs.RoundTrip.{entries-used}
-use Rattle.replica.specs.Machine.{seen, joining, live, droppedDots, ownBase, apply, compacted}
+use Rattle.replica.specs.Machine.{seen, joining, live, ownBase, apply, compacted}
 use Rattle.calls.specs.declared.State.{State}
 use Rattle.calls.specs.State.{clockModel, Machine, nameOf, tombstoneDots, entries as entriesOf, view}
 use Rattle.calls.specs.Damage.{zeroFrom, stateNameOk, tombstoneOk}
@@ -99,14 +99,11 @@ module _ (m : Machine) (w : Whole m) where
     rules = compacted-rules m (w .rules);
     formed = w .formed;
     own-window = w .own-window;
-    tombstone-ascends = ascending-keep compareDots dots kept (m .tombstone) (w .tombstone-ascends);
-    tombstone-seen = λ d k. w .tombstone-seen d (keep-member kept (m .tombstone) k .0);
+    tombstone-ascends = tt;
+    tombstone-seen = λ d k. absurd (List·Memᴰ·not-nil k);
     keys-ascend = ascending-keep compareEntries entries (live clockModel m) (m .keys) (w .keys-ascend);
     keys-seen = λ e k. w .keys-seen e (keep-member (live clockModel m) (m .keys) k .0);
   }
-    where
-      kept : Dot → Bool
-      kept d = not (member compareDots d (droppedDots clockModel m))
 
 -- ---- how much room the keys take
 

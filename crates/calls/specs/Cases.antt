@@ -1,7 +1,7 @@
--- The settled cases of document 01 (marked * there), as one table: set "R1", label "B7".
+-- The settled cases of document 01 (marked * there), with the case that document 02 adds to them, as one table: set "R1", label "B7".
 use Prim.Native.Nat.{ℕ}
 use mathlib.Core.Bool.{true}
-use mathlib.Core.List.{List, [], _∷_}
+use mathlib.Core.List.{List, [], _∷_, _++_}
 use mathlib.Core.Option.{some}
 use mathlib.Core.Path.{_≡_}
 use lib.ListN.{replicate}
@@ -104,6 +104,10 @@ c1 = 0x50 ∷ 0x54 ∷ 0x4C ∷ 0x00 ∷ 0x01 ∷ 0x72 ∷ 0x02 ∷ 0x52 ∷ 0x3
 abbrev see2to64 : List Input
 see2to64 = takesIn (remove (dotsFrom 3 2 16)) ∷ takesIn (remove (dotsFrom 3 18 16)) ∷ takesIn (remove (dotsFrom 3 34 16)) ∷ takesIn (remove (dotsFrom 3 50 15)) ∷ []
 
+-- R1's remove, taken in twice
+abbrev removedTwice : List Input
+removedTwice = takesIn (remove (dot 1 1 ∷ [])) ∷ takesIn (remove (dot 1 1 ∷ [])) ∷ []
+
 pub record StarredCases : Type 0 where
   -- "key of actor 3, counter 258: 02 01 52 31 00 65 42 37 00 03 00 00 00 00 00 00 00 01 02 (19 bytes)", written and read
   pub K1 : (entryKey setR1 k1Entry ≡ k1) × (keyEntry setR1 k1 ≡ some k1Entry)
@@ -121,6 +125,11 @@ pub record StarredCases : Type 0 where
   -- "fresh actor 2 takes in remove {(1,1)}, then A1's message: both answer 0, nothing stored, listing empty"
   pub R1 : shown (started 2 setR1) (takesIn (remove (dot 1 1 ∷ [])) ∷ messageInput (a1 .bytes) room ∷ [])
       ≡ record { answers = 0 ∷ 0 ∷ []; put-out = []; row-3 = row 0 0; tombstone = []; used = 0; listing = []; labels = 0 }
+  -- "a case with R1's remove taken in twice and then compacted: tombstone {(1,1)}, then empty" (document 02)
+  pub R1-twice : shown (started 2 setR1) removedTwice
+      ≡ record { answers = 0 ∷ 0 ∷ []; put-out = []; row-3 = row 0 0; tombstone = dot 1 1 ∷ []; used = 0; listing = []; labels = 0 }
+  pub R1-compacted : shown (started 2 setR1) (removedTwice ++ (compacts ∷ []))
+      ≡ record { answers = 0 ∷ 0 ∷ 0 ∷ []; put-out = []; row-3 = row 0 0; tombstone = []; used = 0; listing = []; labels = 0 }
   -- "B7 has dots (1,1) and (2,1); remove {(1,1)}: B7 stays with (2,1)"
   pub C1 : shown (started 1 setR1) (adds [] ∷ takesIn (add B7 (dot 2 1) []) ∷ removes (dot 1 1 ∷ []) ∷ [])
       ≡ record { answers = 0 ∷ 0 ∷ 0 ∷ []; put-out = c1; row-3 = row 0 0; tombstone = dot 1 1 ∷ []; used = 38; listing = onlyB7 2 1; labels = 1 }

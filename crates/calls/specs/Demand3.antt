@@ -1,6 +1,6 @@
 -- Demand 3: "a single claim about the whole sequence, not one for each call".
 use Prim.Native.Nat.{ℕ}
-use mathlib.Core.List.{List, _++_}
+use mathlib.Core.List.{List, [], _++_}
 use mathlib.Core.Logic.{_↔_, _⊎_}
 use mathlib.Core.Path.{_≡_}
 use lib.Dec.{T}
@@ -17,6 +17,7 @@ use Rattle.store.specs.Cut.{storeBytes}
 use Rattle.listing.specs.Listing.{lineSize, listingBytes}
 use Rattle.replica.specs.Page.{pageAfter, pageMore}
 use Rattle.replica.specs.Rule.{pairs, removed, Paired, livePairs, ruleListing, IsListing, OneLabelPerDot}
+use Rattle.calls.specs.Effect.{tombstoneOf}
 use Rattle.calls.specs.Calls.{setUp, moreFollow, lookupResult}
 use Rattle.calls.specs.Sequence.{Input, listInput, pageInput, lookupInput, compactInput, Held, started, resultOf, answerOf, output, step, run, acceptedMessages, traffic}
 
@@ -46,6 +47,8 @@ pub record Follows (name : Name) (ms : List Message) (h : Held) : Type 0 where
   pub clock-is : (d : Dot) → T (sees (h .state .clock .words) d) ↔ (Paired ms d ⊎ (d ∈ removed ms))
   -- "and a compaction accepted next leaves just the keys of the pairs not removed"
   pub compaction-is : OneLabelPerDot (pairs ms) → (past : Bytes) → Accepted h (compactInput past) → step h (compactInput past) .used ≡ storeBytes name (livePairs ms)
+  -- "Compaction shall leave the tombstone empty", "Demand 3's last sentence then covers the tombstone too.": no dots, and bytes of 0 throughout
+  pub compaction-empties : (past : Bytes) → Accepted h (compactInput past) → step h (compactInput past) .state .tombstone ≡ tombstoneOf []
 
 -- two controllers, ms being the messages of both, answer alike, and hold the same after "one accepted compaction on each as its next call"
 pub record Agree (ms : List Message) (h k : Held) : Type 0 where
@@ -56,6 +59,9 @@ pub record Agree (ms : List Message) (h k : Held) : Type 0 where
   -- "two clocks, when all 16 rows are"
   pub same-clock : (past past′ : Bytes) → Accepted h (compactInput past) → Accepted k (compactInput past′)
       → step h (compactInput past) .state .clock ≡ step k (compactInput past′) .state .clock
+  -- the whole tombstone, its unused bytes too
+  pub same-tombstone : (past past′ : Bytes) → Accepted h (compactInput past) → Accepted k (compactInput past′)
+      → step h (compactInput past) .state .tombstone ≡ step k (compactInput past′) .state .tombstone
   -- "Two stores count as equal when their used lengths and used bytes are equal."
   pub same-store : OneLabelPerDot (pairs ms) → (past past′ : Bytes) → Accepted h (compactInput past) → Accepted k (compactInput past′)
       → (step h (compactInput past) .state .used ≡ step k (compactInput past′) .state .used)

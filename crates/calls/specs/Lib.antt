@@ -1,5 +1,5 @@
 -- State: what a state and its store stand for. Damage: refusal 1. Effect: a machine's state written back. Refusals: the tests of the table.
--- Calls: the calls on bytes. Sequence: calls in a row. Demand3: the claim about every sequence. Pages: what pages are on an unchanged state.
+-- Calls: the calls on bytes. Sequence: calls in a row. Demand3: the claim about every sequence. Room: room after a compaction. Pages: what pages are on an unchanged state.
 -- Promise: what each public call promises.
 -- Exchange: round trips over whole calls. Unchanged: what refusals and empty removes leave. Cases: the settled cases of document 01. Line: its other
 -- cases, and more. Order: the order of refusals. DamageCases: each rule of an undamaged state. Premises: those of demand 3, met and broken.
@@ -10,6 +10,7 @@ pub mod Refusals
 pub mod Calls
 pub mod Sequence
 pub mod Demand3
+pub mod Room
 pub mod Pages
 pub mod Promise
 pub mod Exchange

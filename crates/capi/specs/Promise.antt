@@ -22,7 +22,7 @@ use Rattle.capi.specs.Left.{Left, isBlock, ownAddLeft, ownRemoveLeft, li
 
 -- the version of the interface: 100 times its major number and its minor number
 abbrev pub interfaceVersion : ℕ
-interfaceVersion = 300
+interfaceVersion = 400
 
 -- set-up: a refused one leaves the block of the state that is zero throughout
 pub record SetsUp (actor : ℕ) (name before after : Bytes) (r : ℕ) : Type 0 where

@@ -5,7 +5,7 @@ ghost use Rattle.capi.specs.Left.{takeInLeft, compactLeft};
 ghost use Rattle.capi.specs.Promise.{interfaceVersion, SetsUp, OwnAdds, OwnRemoves, Changes, ListsLabels, PagesLabels, LooksUp, WritesKeyOf, ReadsKeyIn, ReadsMessageIn};
 
 // The version of this interface: 100 times its major number and its minor number.
-const VERSION: u32 = 300;
+const VERSION: u32 = 400;
 
 // Tells the version of the interface.
 #[no_mangle]
@@ -165,7 +165,7 @@ pub extern "C" fn ptl_lookup<'a>(
     number
 }
 
-// Drops the keys whose dots are in the tombstone. With no dots there the block stays as it is.
+// Drops the keys whose dots are in the tombstone, and empties it. With no dots there the block stays as it is.
 #[no_mangle]
 pub extern "C" fn ptl_compact(state: &mut [u8], store: &mut [u8]) -> u8
     ensures { λ r. ⌜ Changes (compactLeft (before state) (before store)) (after state) (after store) r ⌝ }

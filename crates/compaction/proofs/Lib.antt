@@ -1,7 +1,4 @@
--- Pieces: a piece kept further down a buffer. Marks: marks on dots. Compaction: the walk that drops keys.
--- DotsLeft: the unmarked dots moved together. CompactedEntries: compaction of entries.
-pub mod Pieces
-pub mod Marks
+-- Runs: a run of kept keys, moved, and one key more. Compaction: the walk that drops keys. CompactedEntries: compaction of entries.
+pub mod Runs
 pub mod Compaction
-pub mod DotsLeft
 pub mod CompactedEntries

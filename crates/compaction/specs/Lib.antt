@@ -1,3 +1,3 @@
--- Compaction: what it leaves. Marks: its steps.
+-- Compaction: what it leaves of keys. Runs: the steps of its walk.
 pub mod Compaction
-pub mod Marks
+pub mod Runs

@@ -66,17 +66,16 @@ pub fn set_up(actor: u8, name: &[u8]) -> calls::SetUp
 
 // ---- compaction
 
-// Drops the dead keys of an undamaged state's store, and their dots from its tombstone.
+// Drops the dead keys of an undamaged state's store, and leaves its tombstone empty.
 fn compact_done(state: calls::State, store: &mut [u8]) -> calls::Outcome
     requires { ⌜ (isDamaged state (now store) ≡ false) × Sized state ⌝ }
     ensures { λ r. ⌜ Leaves (compactDone state (before store)) (after store) [] r ⌝ }
 {
-    let mut bytes = state.tombstone.bytes;
+    let used = state.used;
     let left = compaction::compact(
         state.name.len,
-        store,
-        state.used,
-        &mut bytes,
+        &mut store[..used],
+        &state.tombstone.bytes,
         state.tombstone.count,
     );
     let actor = state.actor;
@@ -89,16 +88,16 @@ fn compact_done(state: calls::State, store: &mut [u8]) -> calls::Outcome
             name: named,
             clock: clock::Clock { words: words },
             tombstone: calls::Tombstone {
-                bytes: bytes,
-                count: left.count,
+                bytes: [0u8; dots::TOMBSTONE_SIZE],
+                count: 0,
             },
-            used: left.used,
+            used: left,
         },
         written: 0,
     }
 }
 
-// Drops the keys whose dots are in the tombstone. With no dots there all stays.
+// Drops the keys whose dots are in the tombstone, and empties it. With no dots there all stays.
 pub fn compact(state: calls::State, store: &mut [u8]) -> calls::Outcome
     ensures { λ r. ⌜ Leaves (compactResult state (before store)) (after store) [] r ⌝ }
 {

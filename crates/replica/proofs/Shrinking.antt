@@ -1,10 +1,9 @@
 -- Dropping keys leaves the listing as it is; a compaction is such a drop. Assumes nothing.
 use mathlib.Core.Path.{_≡_, ap}
 use mathlib.Core.Logic.{_⊎_, inl, inr, ⊎-elim}
-use mathlib.Core.Bool.{Bool, not}
-use mathlib.Core.List.{List}
+use mathlib.Core.List.{List, List·Memᴰ·not-nil}
 use lib.Dec.{T, not-T}
-use Rattle.wire.specs.Lists.{_∈_, keep, member, Ascending}
+use Rattle.wire.specs.Lists.{_∈_, keep, Ascending}
 use Rattle.wire.proofs.Tests.{decide}
 use Rattle.wire.proofs.Lists.{keep-member, member-keep, member-sound, not-member, ascending-keep, ascending-unique}
 use Rattle.dots.specs.declared.Dot.{Dot}
@@ -12,7 +11,7 @@ use Rattle.dots.specs.Dots.{compareDots}
 use Rattle.dots.specs.Entries.{Entry, compareEntries, linesOf}
 use Rattle.dots.proofs.Orders.{dots, entries}
 use Rattle.replica.specs.Clock.{ClockModel}
-use Rattle.replica.specs.Machine.{State, tombstoned, live, dead, liveKeys, droppedDots, compacted, listing}
+use Rattle.replica.specs.Machine.{State, tombstoned, live, liveKeys, compacted, listing}
 use Rattle.replica.specs.Shrinking.{shrunk, Shrinks, ShrinkingLists}
 
 module _ (C : ClockModel) (s : State C) (up : Ascending compareEntries (s .keys)) (keys : List Entry) (tombstone : List Dot) (less : Shrinks C s keys tombstone) where
@@ -38,23 +37,20 @@ module _ (C : ClockModel) (s : State C) (up : Ascending compareEntries (s .keys)
       (ascending-keep compareEntries entries (live C after) keys (less .keys-ascend up)) (ascending-keep compareEntries entries (live C s) (s .keys) up) was-live stays-live
 
 module _ (C : ClockModel) (s : State C) where
-  -- a compaction drops every key that is dead
+  -- a compaction drops every key that is dead, and every dot of the tombstone
   pub compaction-shrinks : Shrinks C s ((compacted C s) .keys) ((compacted C s) .tombstone)
   unfolding compacted
   compaction-shrinks = record {
     key-old = λ e k. (keep-member (live C s) (s .keys) k) .0;
-    dot-old = λ d k. (keep-member kept (s .tombstone) k) .0;
-    dropped-tombstoned = λ e k. by-tombstone e k (decide (dead C s e));
+    dot-old = λ d k. absurd (List·Memᴰ·not-nil k);
+    dropped-tombstoned = λ e k. by-tombstone e k (decide (tombstoned C s (e .dot)));
     -- no live key is in the tombstone
     kept-tombstoned = λ e k b. absurd (not-member compareDots dots (s .tombstone) ((keep-member (live C s) (s .keys) k) .1) b);
     keys-ascend = ascending-keep compareEntries entries (live C s) (s .keys);
-    tombstone-ascends = ascending-keep compareDots dots kept (s .tombstone);
+    tombstone-ascends = λ up. tt;
   }
     where
-      kept : Dot → Bool
-      kept d = not (member compareDots d (droppedDots C s))
-
-      by-tombstone : (e : Entry) → e ∈ s .keys → T (dead C s e) ⊎ T (live C s e) → (e ∈ keep (live C s) (s .keys)) ⊎ (e .dot ∈ s .tombstone)
+      by-tombstone : (e : Entry) → e ∈ s .keys → T (tombstoned C s (e .dot)) ⊎ T (live C s e) → (e ∈ keep (live C s) (s .keys)) ⊎ (e .dot ∈ s .tombstone)
       by-tombstone e k (inl t) = inr (member-sound compareDots dots (s .tombstone) t)
       by-tombstone e k (inr t) = inl (member-keep (live C s) (s .keys) k t)
 

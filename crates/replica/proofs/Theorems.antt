@@ -118,6 +118,10 @@ module _ (C : ClockModel) (L : ClockLaws C) (K : Controller C) where
   unfolding effect
   compaction-does {x} {i} c = K .does x i (c .done) ∙ ap (effect C (K .view x)) (c .call-is)
 
+  compaction-empties : {x : K .Held} {i : K .Input} → Compacts C K x i → (K .view (K .step x i)) .tombstone ≡ []
+  unfolding compacted
+  compaction-empties z = ap (λ (s : State C). s .tombstone) (compaction-does z)
+
   -- ---- of every life, whatever labels share a dot
 
   abbrev historyOf : Life C K → History
@@ -145,6 +149,7 @@ module _ (C : ClockModel) (L : ClockLaws C) (K : Controller C) where
     rule-means = is-listing (accepted C K c);
     lookup-is = λ single l. rw (← (live-keys C L inv single)) (found-label C (K .view (endOf C K c)) l);
     compaction-is = λ single i z. ap (λ (s : State C). s .keys) (compaction-does z) ∙ live-keys C L inv single;
+    compaction-empties = λ i z. compaction-empties z;
   }
     where
       inv : Invariant C L (c .actor) (K .view (endOf C K c)) (historyOf c)
@@ -154,6 +159,7 @@ module _ (C : ClockModel) (L : ClockLaws C) (K : Controller C) where
   unfolding listing compacted
   replicas-agree c d same = record {
     same-clock = λ i j y z. ap (λ (s : State C). s .clock) (compaction-does y) ∙ equal-clocks C L inv inv′ alike ∙ sym (ap (λ (s : State C). s .clock) (compaction-does z));
+    same-tombstone = λ i j y z. compaction-empties y ∙ sym (compaction-empties z);
     same-listing = λ single. ap linesOf (keys single);
     same-keys = λ single i j y z. ap (λ (s : State C). s .keys) (compaction-does y) ∙ keys single ∙ sym (ap (λ (s : State C). s .keys) (compaction-does z));
   }

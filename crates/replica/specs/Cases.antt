@@ -1,6 +1,6 @@
--- Document 01's slips that would light the wrong bin, as runs of the machine. (Slip 4 is the clock's: `clock/specs`.)
+-- Document 01's slips that would light the wrong bin (slip 4 is the clock's: `clock/specs`), and compactions, as runs of the machine.
 use Prim.Native.Nat.{ℕ}
-use mathlib.Core.List.{List, [], _∷_}
+use mathlib.Core.List.{List, [], _∷_, _++_}
 use mathlib.Core.Path.{_≡_}
 use Rattle.dots.specs.declared.Dot.{Dot}
 use Rattle.dots.specs.Names.{Label}
@@ -52,3 +52,17 @@ pub record SlipCases : Type 0 where
   -- a label stays while one of its dots does
   pub slip-5 : shown 1 (ownAdd B7 [] ∷ takeIn (add B7 (dot 2 1) []) ∷ ownRemove (dot 1 1 ∷ []) ∷ [])
       ≡ record { keys = entry B7 (dot 1 1) ∷ entry B7 (dot 2 1) ∷ []; tombstone = dot 1 1 ∷ []; listing = line B7 (dot 2 1 ∷ []) ∷ [] }
+
+-- a fresh controller takes in the remove of a dot that it has not seen, twice
+abbrev pub removedTwice : List Call
+removedTwice = takeIn (remove (dot 1 1 ∷ [])) ∷ takeIn (remove (dot 1 1 ∷ [])) ∷ []
+
+pub record CompactionCases : Type 0 where
+  -- "R1's remove taken in twice and then compacted: tombstone {(1,1)}, then empty"
+  pub twice : shown 2 removedTwice ≡ record { keys = []; tombstone = dot 1 1 ∷ []; listing = [] }
+  pub twice-compacted : shown 2 (removedTwice ++ (compact ∷ [])) ≡ record { keys = []; tombstone = []; listing = [] }
+  -- "the clock already keeps such adds out"
+  pub add-after : shown 2 (removedTwice ++ (compact ∷ takeIn (add B7 (dot 1 1) []) ∷ [])) ≡ record { keys = []; tombstone = []; listing = [] }
+  -- a key whose dot is not in the tombstone stays
+  pub live-stays : shown 1 (ownAdd B7 [] ∷ ownAdd B8 [] ∷ ownRemove (dot 1 1 ∷ []) ∷ compact ∷ [])
+      ≡ record { keys = entry B8 (dot 1 2) ∷ []; tombstone = []; listing = line B8 (dot 1 2 ∷ []) ∷ [] }

@@ -1,5 +1,6 @@
 -- Demand 3 over lists, for every controller that meets the seam: after any calls its listing, lookup, clock and compacted keys are those
--- of the rule, and two controllers that accepted the same messages agree. A refused call is a call of the life like any other.
+-- of the rule, a compaction leaves its tombstone empty, and two controllers that accepted the same messages agree.
+-- A refused call is a call of the life like any other.
 use mathlib.Core.Bool.{Bool, cond}
 use mathlib.Core.List.{List, [], _∷_, _++_}
 use mathlib.Core.Logic.{_↔_, _⊎_}
@@ -51,11 +52,14 @@ module _ (C : ClockModel) (K : Controller C) where
     pub lookup-is : OneLabelPerDot (pairs ms) → (l : Label) → T (found C (K .view x) l) ↔ (l ∈ lineLabels (ruleListing ms))
     -- "and a compaction accepted next leaves just the keys of the pairs not removed"
     pub compaction-is : OneLabelPerDot (pairs ms) → (i : K .Input) → Compacts x i → (K .view (K .step x i)) .keys ≡ livePairs ms
+    -- "Compaction shall leave the tombstone empty", "Demand 3's last sentence then covers the tombstone too."
+    pub compaction-empties : (i : K .Input) → Compacts x i → (K .view (K .step x i)) .tombstone ≡ []
 
   -- Two controllers, ms being the messages of both: they list the same and, after "one accepted compaction on each as its next call",
-  -- have equal clocks and keys.
+  -- have equal clocks, tombstones and keys: all that a state has but the actor.
   pub record Agree (ms : List Message) (x y : K .Held) : Type 0 where
     pub same-clock : (i j : K .Input) → Compacts x i → Compacts y j → (K .view (K .step x i)) .clock ≡ (K .view (K .step y j)) .clock
+    pub same-tombstone : (i j : K .Input) → Compacts x i → Compacts y j → (K .view (K .step x i)) .tombstone ≡ (K .view (K .step y j)) .tombstone
     pub same-listing : OneLabelPerDot (pairs ms) → listing C (K .view x) ≡ listing C (K .view y)
     pub same-keys : OneLabelPerDot (pairs ms) → (i j : K .Input) → Compacts x i → Compacts y j
         → (K .view (K .step x i)) .keys ≡ (K .view (K .step y j)) .keys

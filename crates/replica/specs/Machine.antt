@@ -78,23 +78,12 @@ module _ (C : ClockModel) where
     abbrev pub live : Entry → Bool
     live e = not (tombstoned (e .dot))
 
-    abbrev pub dead : Entry → Bool
-    dead e = tombstoned (e .dot)
-
     abbrev pub liveKeys : List Entry
     liveKeys = keep live (s .keys)
 
-    abbrev pub droppedDots : List Dot
-    droppedDots = map entryDot (keep dead (s .keys))
-
-    -- "drops every key whose dot is in the tombstone and takes the dots of dropped keys out of the tombstone"
+    -- "drops every key whose dot is in the tombstone" and "shall leave the tombstone empty: the clock already keeps such adds out"
     unfoldable pub compacted : State
-    compacted = record {
-      actor = s .actor;
-      clock = s .clock;
-      tombstone = keep (λ (d : Dot). not (member compareDots d droppedDots)) (s .tombstone);
-      keys = liveKeys;
-    }
+    compacted = record { actor = s .actor; clock = s .clock; tombstone = []; keys = liveKeys }
 
     -- "each label with at least one stored key whose dot is not in the tombstone, ascending"
     unfoldable pub listing : List Line

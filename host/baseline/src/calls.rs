@@ -172,10 +172,9 @@ pub fn compact<F: Form>(block: &mut Block, store: &mut [u8]) -> u8 {
     if dead.is_empty() {
         return DONE;
     }
-    let (used, dropped) =
-        store::drop_dead::<F>(store, sound.used, sound.prefix.len(), F::Dead::of(dead));
-    let count = tombstone::remove(block, sound.count, &dropped);
-    block::set_count(block, count);
+    let used = store::drop_dead::<F>(store, sound.used, sound.prefix.len(), F::Dead::of(dead));
+    tombstone::clear(block, sound.count);
+    block::set_count(block, 0);
     block::set_used(block, used);
     DONE
 }

@@ -53,6 +53,6 @@ pub trait Ends: Default {
 pub trait Dead<'a> {
     fn of(tombstone: Tombstone<'a>) -> Self;
 
-    /// The slot that has this dot.
-    fn slot(&self, dot: Dot) -> Option<usize>;
+    /// Whether this dot is in the tombstone.
+    fn has(&self, dot: Dot) -> bool;
 }

@@ -99,8 +99,8 @@ impl<'a> Dead<'a> for Tombstone<'a> {
         tombstone
     }
 
-    fn slot(&self, dot: Dot) -> Option<usize> {
-        self.find(dot).ok()
+    fn has(&self, dot: Dot) -> bool {
+        self.find(dot).is_ok()
     }
 }
 

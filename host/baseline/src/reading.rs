@@ -48,7 +48,7 @@ fn try_list<F: Form>(block: &Block, store: &[u8], out: &mut [u8]) -> Result<List
     let sound = Sound::<F>::read(block, store, &[])?;
     let (used, prefix) = (&store[..sound.used], sound.prefix.len());
     let dead = F::Dead::of(Tombstone::of(block, sound.count));
-    let live = || keys::<F>(used, prefix).filter(|key| dead.slot(key.dot()).is_none());
+    let live = || keys::<F>(used, prefix).filter(|key| !dead.has(key.dot()));
     // An entry is shorter than its keys: as many bytes as are used are always enough.
     if out.len() < used.len() && out.len() < listing_length(live()) {
         return Err(OUTPUT_SHORT);
@@ -117,7 +117,7 @@ fn try_page<F: Form>(
 fn write_page<F: Form>(keys: &[u8], prefix: usize, dead: &F::Dead<'_>, out: &mut [u8]) -> Paged {
     let mut page = Paged::default();
     for run in runs::<F>(keys, prefix) {
-        let live = run.dots.filter(|dot| dead.slot(*dot).is_none());
+        let live = run.dots.filter(|dot| !dead.has(*dot));
         let room = &mut out[page.written..];
         // Live dots are counted only where there is no room for all.
         if entry_length(run.label, run.number) > room.len() {

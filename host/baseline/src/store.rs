@@ -2,7 +2,7 @@
 
 use crate::dot::Dot;
 use crate::form::{Dead, Ends, Form};
-use limits::{KEY_END, TOMBSTONE_DOTS_MAX};
+use limits::KEY_END;
 
 /// A label key of a sound store.
 #[derive(Clone, Copy)]
@@ -162,21 +162,19 @@ pub fn insert(store: &mut [u8], used: usize, at: usize, key: &[u8]) {
 }
 
 /// Drops the keys whose dots are in the tombstone and sets the freed bytes to 0. Gives the used
-/// length, and which slots of the tombstone had a key.
+/// length.
 pub fn drop_dead<'a, F: Form>(
     store: &mut [u8],
     used: usize,
     prefix: usize,
     dead: F::Dead<'a>,
-) -> (usize, [bool; TOMBSTONE_DOTS_MAX]) {
-    let mut dropped = [false; TOMBSTONE_DOTS_MAX];
+) -> usize {
     let mut ends = F::Ends::default();
     // Keys from `run` to `at` are kept and not yet moved down to `kept`.
     let (mut kept, mut run, mut at) = (0, 0, 0);
     while let Some((tail, _)) = first_tail(&store[at..used], prefix, &mut ends) {
         let (length, dot) = (prefix + tail.len(), dot_of(tail).unwrap_or(Dot::NONE));
-        if let Some(slot) = dead.slot(dot) {
-            dropped[slot] = true;
+        if dead.has(dot) {
             store.copy_within(run..at, kept);
             kept += at - run;
             run = at + length;
@@ -186,5 +184,5 @@ pub fn drop_dead<'a, F: Form>(
     store.copy_within(run..used, kept);
     kept += used - run;
     store[kept..used].fill(0);
-    (kept, dropped)
+    kept
 }

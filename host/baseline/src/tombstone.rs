@@ -71,15 +71,7 @@ pub fn insert(block: &mut Block, count: usize, dot: Dot) -> usize {
     count + 1
 }
 
-/// Takes out the dots of these slots and fills up with zeros. Gives the number of dots.
-pub fn remove(block: &mut Block, count: usize, dropped: &[bool; TOMBSTONE_DOTS_MAX]) -> usize {
-    let room = block::tombstone_room_mut(block);
-    let mut kept = 0;
-    for slot in (0..count).filter(|slot| !dropped[*slot]) {
-        let at = slot * DOT_SIZE;
-        room.copy_within(at..at + DOT_SIZE, kept * DOT_SIZE);
-        kept += 1;
-    }
-    room[kept * DOT_SIZE..count * DOT_SIZE].fill(0);
-    kept
+/// Sets the dots' slots to 0.
+pub fn clear(block: &mut Block, count: usize) {
+    block::tombstone_room_mut(block)[..count * DOT_SIZE].fill(0);
 }

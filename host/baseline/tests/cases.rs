@@ -49,6 +49,7 @@ for_each_form! {
     pages_start_after_any_label
     a_dead_label_on_a_page
     a_tombstone_that_is_full
+    a_tombstone_of_dots_without_keys
     slips
     damage_is_answered_1_by_every_call
 }
@@ -517,6 +518,24 @@ fn a_tombstone_that_is_full<F: Form>() {
     assert_eq!(one.remove(&[(1, 7)]).0, 0);
     assert_eq!(one, full);
     assert_eq!((one.compact(), one.sizes()), (0, (0, 19)));
+}
+
+/// A remove that comes again leaves a dot without a key, which a compaction takes out.
+fn a_tombstone_of_dots_without_keys<F: Form>() {
+    let mut two = Rack::<F>::new(2);
+    let remove = remove_bytes(&[(1, 1)]);
+    assert_eq!((two.take(&remove), two.take(&remove)), (0, 0));
+    assert_eq!(two.tombstone(), dots(&[(1, 1)]));
+    assert_eq!((two.compact(), two.sizes()), (0, (0, 0)));
+    assert_eq!(two.tombstone(), dots(&[]));
+    for event in 1..=128 {
+        let remove = remove_bytes(&[(3, event)]);
+        assert_eq!((two.take(&remove), two.take(&remove)), (0, 0));
+    }
+    assert_eq!(two.remove(&[(1, 1)]).0, 11);
+    assert_eq!((two.compact(), two.sizes()), (0, (0, 0)));
+    assert_eq!(two.remove(&[(1, 1)]).0, 0);
+    assert_eq!(two.tombstone(), dots(&[(1, 1)]));
 }
 
 #[test]

@@ -243,7 +243,7 @@ pub fn lookup(state: &State, store: &[u8], label: &[u8]) -> Looked {
     }
 }
 
-/// Compaction.
+/// Compaction: leaves the keys of dots that are not removed, and an empty tombstone.
 pub fn compact(state: &mut State, store: &mut [u8]) -> u8 {
     let state = state.block_mut();
     unsafe {

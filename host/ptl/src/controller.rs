@@ -127,7 +127,7 @@ impl Controller {
         })
     }
 
-    /// Drops the keys of removed dots; the freed bytes can be used again.
+    /// Drops the keys of removed dots and empties the tombstone; the freed bytes can be used again.
     pub fn compact(&mut self) -> Result<(), Answer> {
         let answer = calls::compact(&mut self.state, &mut self.store);
         Answer::give(answer, || ())

@@ -1,6 +1,6 @@
 //! The cases of the rules ("Both sides of the line") and the slips, through the safe wrapper.
 
-use limits::{MESSAGE_MAX, PRINT_MAX, PRINT_MIN, STATE_SIZE, STORE_MAX};
+use limits::{MESSAGE_MAX, PRINT_MAX, PRINT_MIN, STATE_SIZE, STORE_MAX, TOMBSTONE_SIZE};
 use ptl::{
     read_key, read_message, write_key, Actor, Answer, Controller, Counter, Dot, Entry, Key, Label,
     Message, SetName, State,
@@ -165,6 +165,23 @@ fn a1_and_a2() {
 fn r1_late_add() {
     let mut two = fresh(2);
     assert_eq!(two.take_in(&remove(&[dot(1, 1)])), Ok(()));
+    assert_eq!(two.take_in(&bytes(A1)), Ok(()));
+    assert_eq!((two.state().used(), listed(&two)), (0, vec![]));
+}
+
+/// R1's remove comes twice, and leaves a dot without a key until a compaction.
+#[test]
+fn r1_remove_twice() {
+    let mut two = fresh(2);
+    assert_eq!(two.take_in(&remove(&[dot(1, 1)])), Ok(()));
+    assert_eq!(two.state().tombstone(), vec![]);
+    assert_eq!(two.take_in(&remove(&[dot(1, 1)])), Ok(()));
+    assert_eq!(two.state().tombstone(), vec![dot(1, 1)]);
+    let before = two.clone();
+    assert_eq!(two.compact(), Ok(()));
+    assert_eq!(two.state().tombstone_room(), [0; TOMBSTONE_SIZE]);
+    assert_eq!(two.state().count(), 0);
+    assert_eq!(two.store(), before.store());
     assert_eq!(two.take_in(&bytes(A1)), Ok(()));
     assert_eq!((two.state().used(), listed(&two)), (0, vec![]));
 }

@@ -267,4 +267,6 @@ fn the_products_tombstone_takes_its_most_dots() {
         assert!(one.own_remove(&[*dot]).is_ok(), "joins the tombstone");
     }
     assert_eq!(one.own_remove(&[*last]), Err(Answer::TombstoneFull));
+    assert!(one.compact().is_ok(), "leaves the tombstone empty");
+    assert!(one.own_remove(&[*last]).is_ok(), "joins the tombstone");
 }

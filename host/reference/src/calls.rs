@@ -76,8 +76,8 @@ pub fn take_in(state: &State, store: &mut [u8], message: &[u8]) -> Outcome {
     outcome(state, try_take_in(state, store, message))
 }
 
-/// Compaction: drops every key whose dot is in the tombstone, takes the dots of dropped keys
-/// out of the tombstone and sets the freed bytes to 0. Answer 1.
+/// Compaction: drops every key whose dot is in the tombstone, sets the freed bytes to 0 and
+/// leaves the tombstone empty. Answer 1.
 pub fn compact(state: &State, store: &mut [u8]) -> Outcome {
     outcome(state, try_compact(state, store))
 }
@@ -212,12 +212,8 @@ fn try_take_in(state: &State, store: &mut [u8], message: &[u8]) -> Result<(State
 fn try_compact(state: &State, store: &mut [u8]) -> Result<(State, u64), u8> {
     let held = Held::read(state, store).ok_or(DAMAGED)?;
     let mut next = held.clone();
-    for pair in &held.store {
-        if held.tombstone.contains(&pair.1) {
-            next.store.remove(pair);
-            next.tombstone.remove(&pair.1);
-        }
-    }
+    next.store.retain(|(_, dot)| !held.tombstone.contains(dot));
+    next.tombstone.clear();
     write_store(&next, store);
     store[next.used()..held.used()].fill(0);
     Ok((next.state(state.clock), 0))

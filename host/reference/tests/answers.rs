@@ -319,8 +319,24 @@ fn compact_answers() {
     assert_eq!(bad.compact(), 1);
     assert_eq!(bench.compact(), 0);
     assert_eq!(bench.used(), [key(B7, (1, 1)), key(B7, (1, 3))].concat());
-    assert_eq!(bench.tombstone(), dots(&[(2, 4)]), "no key, so it stays");
     assert_eq!(bench.store[38..57], [0; 19]);
+    assert_eq!(bench.state.count, 0, "(2,4) had no key, and goes too");
+    assert_eq!(bench.state.tombstone, State::zero().tombstone);
+}
+
+/// With nothing to drop a compaction still empties the tombstone.
+#[test]
+fn compaction_of_dots_without_keys() {
+    let mut bench = Bench::new(1);
+    bench.add(B7, &[]);
+    bench.set_row(2, 9, 0);
+    bench.set_tombstone(&dots_of(2, 1..=9));
+    let before = bench.clone();
+    assert_eq!(bench.compact(), 0);
+    assert_eq!((bench.state.count, bench.state.used), (0, 19));
+    assert_eq!(bench.state.tombstone, State::zero().tombstone);
+    assert_eq!(bench.store, before.store);
+    assert_eq!(bench.state.clock, before.state.clock);
 }
 
 #[test]
@@ -356,23 +372,23 @@ fn the_longest_store_filled_to_the_brim() {
     assert_eq!(bench.state.used, 65_536 - 16 * 18);
 }
 
-/// Compaction takes out the dots of dropped keys only. Two controllers that remove the same dot,
-/// one of them compacting in between, leave a dot without a key; 128 of these stay for good.
+/// A remove that comes again leaves a dot without a key; 128 of these fill the tombstone, and a
+/// compaction takes them out.
 #[test]
-fn removes_after_compaction_stay_in_the_tombstone() {
+fn repeated_removes_fill_the_tombstone_until_a_compaction() {
     let mut bench = Bench::new(1);
-    for event in 1..=129 {
-        assert_eq!(bench.take(&add_message(b"R1", B7, (2, event), &[])), 0);
-        assert_eq!(
-            bench.remove(&[(2, event)]).0,
-            if event < 129 { 0 } else { 11 }
-        );
-        assert_eq!(bench.compact(), 0);
-        let again = bench.take(&remove_message(b"R1", &[(2, event)]));
-        assert_eq!(again, if event < 129 { 0 } else { 11 });
+    for event in 1..=128 {
+        let remove = remove_message(b"R1", &[(2, event)]);
+        assert_eq!((bench.take(&remove), bench.take(&remove)), (0, 0));
+        assert_eq!(bench.state.count, event);
     }
-    assert_eq!((bench.state.count, bench.state.used), (128, 19));
-    assert_eq!(bench.compact(), 0);
-    assert_eq!(bench.state.count, 128);
+    assert_eq!(bench.add(B7, &[]).0, 0);
+    assert_eq!(bench.remove(&[(1, 1)]).0, 11);
+    assert_eq!(bench.remove(&[(2, 128)]).0, 0);
+    assert_eq!((bench.compact(), bench.state.count), (0, 0));
     assert_eq!(bench.list().2, 1);
+    assert_eq!(bench.remove(&[(1, 1)]).0, 0);
+    assert_eq!((bench.tombstone(), bench.list().2), (dots(&[(1, 1)]), 0));
+    let late = add_message(b"R1", B7, (2, 7), &[]);
+    assert_eq!((bench.take(&late), bench.list().2), (0, 0));
 }

@@ -169,6 +169,5 @@ fn two_labels_under_one_dot_compact_together() {
     assert_eq!(bench.list(), (0, both, 2));
     assert_eq!(bench.remove(&[(3, 2)]).0, 0);
     assert_eq!(bench.compact(), 0);
-    assert_eq!(bench.state.used, 0);
-    assert_eq!(bench.tombstone(), dots(&[(3, 1)]));
+    assert_eq!((bench.state.used, bench.state.count), (0, 0));
 }

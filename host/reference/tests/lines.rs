@@ -77,6 +77,17 @@ fn r1_remove_before_add() {
 }
 
 #[test]
+fn r1_remove_twice_and_compaction() {
+    let mut bench = Bench::new(2);
+    let remove = remove_message(b"R1", &[(1, 1)]);
+    assert_eq!((bench.take(&remove), bench.take(&remove)), (0, 0));
+    assert_eq!(bench.tombstone(), dots(&[(1, 1)]));
+    assert_eq!((bench.compact(), bench.state.count), (0, 0));
+    assert_eq!(bench.state.tombstone, State::zero().tombstone);
+    assert_eq!((bench.row(1), bench.state.used), ((1, 0), 0));
+}
+
+#[test]
 fn c1_one_of_two_dots() {
     let mut bench = Bench::new(2);
     bench.add(B7, &[]);

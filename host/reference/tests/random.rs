@@ -227,6 +227,7 @@ impl Node {
         let pairs = self.rule.live_pairs();
         let keys = pairs.iter().map(|(label, dot)| key_of(label, *dot));
         assert_eq!(next.used(), keys.collect::<Vec<_>>().concat());
+        assert_eq!(next.state.count, 0);
         assert_eq!(next.list(), self.bench.list());
     }
 
@@ -276,6 +277,9 @@ impl Node {
         let (mut one, mut two) = (self.bench.clone(), other.bench.clone());
         assert_eq!((one.compact(), two.compact()), (0, 0));
         assert_eq!(one.used(), two.used());
+        let (mut first, second) = (one.state, two.state);
+        first.actor = second.actor;
+        assert_eq!(first, second);
     }
 }
 

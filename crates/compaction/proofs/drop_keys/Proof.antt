@@ -1,9 +1,7 @@
--- The invariant, `Walked`: the kept keys stand before `to`, and from `from` on nothing has moved.
+-- The invariant, `Walked`: up to the end of the run the kept keys stand where the run says, and from there on nothing has moved.
 use Prim.Native.Nat.{_-_}
-use mathlib.Core.Path.{_∙_}
 use native.Mathlib.Omega.{arith}
 use lib.ListN.{length}
-use Rattle.dots.specs.Wire.{dotsOf}
 use Rattle.compaction.specs.Compaction.{isIn}
 use Rattle.compaction.proofs.Compaction.{Walked, walk-started, key-within, key-room, turn-falls, walk-turned, walk-ended}
 use borrow.Author.Needs.{needs}
@@ -11,10 +9,10 @@ use Rattle.compaction.proofs.drop_keys.Statement.{statement}
 use Rattle.compaction.proofs.drop_keys.Tie as tie
 
 abbrev Inv-loop : tie.InvT-loop
-Inv-loop n keys₀ ascending slots marks₀ from₀ to₀ keys marks from to = Walked (isIn ascending) (dotsOf ascending) n keys₀ keys marks₀ marks from to
+Inv-loop n keys₀ tombstone slots run₀ keys run = Walked (isIn tombstone) n keys₀ keys run
 
 abbrev μ-loop : tie.MeasureT-loop
-μ-loop n keys₀ ascending slots marks₀ from₀ to₀ keys marks from to = length keys - from
+μ-loop n keys₀ tombstone slots run₀ keys run = length keys - run .end
 
 loop-holds : tie.Need-loop-holds Inv-loop μ-loop
 loop-holds c = search (needs, walk-started)
@@ -31,26 +29,23 @@ part-key-length-end c = search needs
 key-length-requires : tie.Need-key-length-requires Inv-loop μ-loop
 key-length-requires c κs = search needs
 
-add-end : tie.Need-add-end Inv-loop μ-loop
-add-end c =
-    let turn = c .before .before .before .before in
-    let s = turn .before .before .before in
-    let end = key-within (isIn (s .args .ascending .now)) _ _ _ _ _ _ _ _ _ (turn .loop .inv) (c .before .before .before .loop-test .taken) (c .key-length .ensures) in
+add-next : tie.Need-add-next Inv-loop μ-loop
+add-next c =
+    let turn = c .before .before .before .before .before in
+    let end = key-within _ _ _ _ _ _ (turn .loop .inv) (c .before .before .before .if1 .taken) (c .key-length .ensures) in
     omega arith
 
-drop-key-requires : tie.Need-drop-key-requires Inv-loop μ-loop
-drop-key-requires c κs =
-    let turn = c .before .before .before .before .before .before in
-    let dots = turn .before .before .before .pre .2 in (
-      (search needs, search (needs, key-room), search (needs, key-within)),
-      record { ascends = dots .ascends; slotted = dots .slotted; few = dots .few; sized = turn .loop .inv .marks-size ∙ dots .sized },
-    )
+walk-key-requires : tie.Need-walk-key-requires Inv-loop μ-loop
+walk-key-requires c κs = search (needs, key-room, key-within)
 
 loop-less : tie.Need-loop-less Inv-loop μ-loop
 loop-less c = search (needs, turn-falls)
 
 loop-again : tie.Need-loop-again Inv-loop μ-loop
 loop-again c = search (needs, walk-turned)
+
+move-run-requires : tie.Need-move-run-requires Inv-loop μ-loop
+move-run-requires c κs = search needs
 
 sub-clear : tie.Need-sub-clear Inv-loop μ-loop
 sub-clear c = search needs
@@ -81,10 +76,11 @@ drop-keys-spec =
     part-key-length-start
     part-key-length-end
     key-length-requires
-    add-end
-    drop-key-requires
+    add-next
+    walk-key-requires
     loop-less
     loop-again
+    move-run-requires
     sub-clear
     part-clear-start
     part-clear-end

@@ -37,11 +37,11 @@ impl<'a> Dead<'a> for Filter<'a> {
     }
 
     #[inline(always)]
-    fn slot(&self, dot: Dot) -> Option<usize> {
+    fn has(&self, dot: Dot) -> bool {
         match self.cells[cell(dot)] {
-            NONE => None,
-            SEVERAL => self.tombstone.find(dot).ok(),
-            slot => Some(usize::from(slot)).filter(|slot| self.tombstone.is_at(*slot, dot)),
+            NONE => false,
+            SEVERAL => self.tombstone.has(dot),
+            slot => self.tombstone.is_at(usize::from(slot), dot),
         }
     }
 }

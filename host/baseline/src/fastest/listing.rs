@@ -73,7 +73,7 @@ fn write_keys<'a>(
         let actor = tail[length + 1];
         let counter = high_first(tail, length + 3);
         let dot = Dot { actor, counter };
-        if dead.slot(dot).is_none() {
+        if !dead.has(dot) {
             written.write_key(tail, length, dot, out);
         }
         rest = rest.get(step + length..).unwrap_or_default();

@@ -52,7 +52,9 @@ impl Honest {
             (Command::Lookup { label }, Reply::Looked(looked)) => {
                 looked.listed == self.rule.has(label)
             }
-            (Command::Compact, _) => self.keys_left() == rack.store[..rack.used()],
+            (Command::Compact, _) => {
+                self.keys_left() == rack.store[..rack.used()] && rack.state.count() == 0
+            }
             _ => return Ok(false),
         };
         if !holds {

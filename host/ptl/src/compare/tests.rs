@@ -83,6 +83,7 @@ fn the_report_names_what_the_product_is_compared_with() {
 #[test]
 fn a_fault_in_the_state_is_shown() {
     shows(Fault::WholeShiftLost, "states differ", 10);
+    shows(Fault::KeylessDotsStay, "states differ", 10);
 }
 
 #[test]
@@ -121,6 +122,7 @@ fn a_fault_that_both_sides_have_breaks_the_rule() {
         Fault::DeadLabelListed,
         Fault::PageEndsEarly,
         Fault::PageOneShort,
+        Fault::KeylessDotsStay,
     ] {
         let faulty = Faulty::new(&Second, fault);
         let report = found([&faulty, &faulty]);

@@ -50,6 +50,8 @@ pub enum Fault {
     MessageUntold,
     /// Now and then compaction drops a key that is not removed.
     LiveKeyDropped,
+    /// Compaction takes only the dots of dropped keys out of the tombstone.
+    KeylessDotsStay,
     /// Now and then an own add answers 8, as if the box had lost its memory.
     MemoryLost,
 }
@@ -116,12 +118,15 @@ impl<'a> Faulty<'a> {
     }
 
     fn compact(&self, rack: &mut Rack) -> Reply {
-        let before = rack.state.used();
+        let before = rack.clone();
         let reply = self.sound.run(rack, &Command::Compact, &mut []);
         let Rack { state, store } = rack;
         let after = state.used();
-        if self.has(Fault::FreedByteKept) && after < before {
+        if self.has(Fault::FreedByteKept) && after < before.state.used() {
             store[after as usize] = 2;
+        }
+        if self.has(Fault::KeylessDotsStay) && reply.answer() == 0 {
+            put_back(state, &keyless(&before));
         }
         if self.strikes(Fault::LiveKeyDropped, 10) {
             let key = [b"\x02\x01", state.name(), b"\x00e"].concat();
@@ -204,7 +209,7 @@ impl<'a> Faulty<'a> {
             *rack = before;
         }
         match refused {
-            true => Answer::TombstoneFull.number(),
+            true => Answer::TooFar.number(),
             false => Answer::Done.number(),
         }
     }
@@ -218,6 +223,25 @@ fn printing(command: &Command) -> Command {
         past.for_each(|byte| *byte = PRINT_MAX);
     }
     command
+}
+
+/// The dots of a tombstone that no key in the used part has.
+fn keyless(rack: &Rack) -> Vec<Dot> {
+    let used = &rack.store[..rack.used()];
+    let mut dots = rack.state.tombstone();
+    dots.retain(|dot| {
+        let tail = [&[0, dot.actor.0, 0], &dot.counter.0.to_be_bytes()[..]].concat();
+        !used.windows(tail.len()).any(|bytes| bytes == tail)
+    });
+    dots
+}
+
+/// Puts dots into an empty tombstone.
+fn put_back(state: &mut State, dots: &[Dot]) {
+    for (slot, dot) in dots.iter().enumerate() {
+        state.set_slot(slot, *dot);
+    }
+    state.set_count(dots.len() as u64);
 }
 
 /// Writes a byte after these.

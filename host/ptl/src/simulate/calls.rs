@@ -9,8 +9,15 @@ use ptl::Answer;
 
 /// Answers that a box meets in an honest day, beside 0 and those to noise.
 pub const TOO_FAR: u8 = Answer::TooFar as u8;
-pub const TOMBSTONE_FULL: u8 = Answer::TombstoneFull as u8;
+const TOMBSTONE_FULL: u8 = Answer::TombstoneFull as u8;
 pub const STORE_FULL: u8 = Answer::StoreFull as u8;
+
+/// Calls that a full tombstone refused: at first, and after the compaction that followed.
+#[derive(Default)]
+pub struct Blocked {
+    pub once: usize,
+    pub again: usize,
+}
 
 impl Floor<'_> {
     /// A call, kept in flash if it was accepted. None if the power failed before that.
@@ -28,6 +35,9 @@ impl Floor<'_> {
         }
         if said.answer != 0 && !self.stations[at].is_as_kept() {
             self.fault(at, format!("answers {} and yet changes", said.answer));
+        }
+        if kept && *command == Command::Compact && self.stations[at].state().count() != 0 {
+            self.fault(at, "compacts and yet has dots in its tombstone".into());
         }
         if cut {
             self.cut_power(at);
@@ -51,12 +61,15 @@ impl Floor<'_> {
     }
 
     /// A call; on 11 and 12 the box compacts and tries again, and if the store stays full it gets
-    /// a longer one. None if the power failed meanwhile.
+    /// a longer one. After a compaction the tombstone is empty, so that 11 is the answer no more.
+    /// None if the power failed meanwhile.
     pub fn insist(&mut self, at: usize, command: &Command) -> Option<Said> {
         let mut said = self.act(at, command)?;
         if said.answer == TOMBSTONE_FULL || said.answer == STORE_FULL {
+            self.blocked.once += usize::from(said.answer == TOMBSTONE_FULL);
             self.act(at, &Command::Compact)?;
             said = self.act_if_on(at, command)?;
+            self.blocked.again += usize::from(said.answer == TOMBSTONE_FULL);
         }
         if said.answer == STORE_FULL {
             let fill = self.random.byte();
@@ -83,7 +96,7 @@ impl Floor<'_> {
                 self.longest = self.longest.max(context_dots(command));
                 self.post(at, said.message);
             }
-            TOMBSTONE_FULL | STORE_FULL => {}
+            STORE_FULL => {}
             answer => self.fault(
                 at,
                 format!("answers {answer} to its own {}", command.word()),

@@ -72,7 +72,7 @@ impl Floor<'_> {
     }
 
     /// The day is over: all boxes compact, and their lists, lamps, keys and clocks must be those of
-    /// one rule.
+    /// one rule, their tombstones empty.
     pub fn end(&mut self) {
         self.weather = Weather::STILL;
         self.power_up();
@@ -84,11 +84,5 @@ impl Floor<'_> {
             self.hold_to_all(at);
         }
         self.hold_alike();
-    }
-
-    /// The most dots that a box's tombstone has. After compaction these have no key any more.
-    pub fn most_left(&self) -> u64 {
-        let counts = self.stations.iter().map(|station| station.state().count());
-        counts.max().unwrap_or(0)
     }
 }

@@ -1,6 +1,7 @@
 //! The shop floor: sixteen boxes, the radio between them, and one rule over all messages.
 
 use super::agreement::Sample;
+use super::calls::Blocked;
 use super::day::Phase;
 use super::lamps::AfterMove;
 use super::radio::Radio;
@@ -51,6 +52,8 @@ pub struct Floor<'a> {
     pub after_move: AfterMove,
     /// What a person reads listings with meanwhile.
     pub terminal: Terminal,
+    /// Calls that met a full tombstone.
+    pub blocked: Blocked,
     phase: &'static str,
     seed: u64,
     faults: Vec<String>,
@@ -78,6 +81,7 @@ impl<'a> Floor<'a> {
             moved: Vec::new(),
             after_move: AfterMove::default(),
             terminal: Terminal::new(seed),
+            blocked: Blocked::default(),
             phase: "set-up",
             seed,
             faults: Vec::new(),

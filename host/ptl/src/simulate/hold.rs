@@ -54,12 +54,16 @@ impl Floor<'_> {
         }
     }
 
-    /// After the last compaction: all boxes have seen the same and hold the same keys.
+    /// After the last compaction: all boxes have seen the same and hold the same keys and the same
+    /// tombstone.
     pub fn hold_alike(&mut self) {
         for at in 1..RACKS {
             let (first, other) = (&self.stations[0], &self.stations[at]);
-            if first.used() != other.used() || clock(first) != clock(other) {
-                self.fault(at, "keys or clock are not those of box 1".into());
+            let alike = first.used() == other.used()
+                && clock(first) == clock(other)
+                && first.state().tombstone() == other.state().tombstone();
+            if !alike {
+                self.fault(at, "keys, clock or tombstone are not those of box 1".into());
             }
         }
     }

@@ -1,6 +1,6 @@
 //! Messages from box to box: written, sent, asked for again, taken in now or later.
 
-use super::calls::{STORE_FULL, TOMBSTONE_FULL, TOO_FAR};
+use super::calls::{STORE_FULL, TOO_FAR};
 use super::floor::{Floor, Posted};
 use super::radio::{Cargo, Flight, Letter};
 use crate::script::{Command, RACKS};
@@ -94,7 +94,7 @@ impl Floor<'_> {
                 station.accept(number);
                 station.fresh += 1;
             }
-            TOO_FAR | TOMBSTONE_FULL | STORE_FULL => {
+            TOO_FAR | STORE_FULL => {
                 if !station.later.contains(&number) {
                     station.later.push(number);
                 }

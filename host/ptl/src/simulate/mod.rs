@@ -21,10 +21,11 @@ mod weather;
 mod work;
 
 use crate::engine::Engine;
+use calls::Blocked;
 use day::PHASES;
 use floor::Floor;
 use goods::RETURNS_BIN;
-use limits::{CONTEXT_DOTS_MAX, TOMBSTONE_DOTS_MAX};
+use limits::CONTEXT_DOTS_MAX;
 use picture::Picture;
 use std::fs::File;
 use std::io::{self, Write};
@@ -117,8 +118,8 @@ const LEGEND: &str = "
 
 /// What the numbers meant, and the table of lamps.
 fn foot(floor: &Floor, report: &mut dyn Write) -> io::Result<()> {
-    let (mistakable, left) = (floor.radio.mistakable, floor.most_left());
-    let longest = floor.longest;
+    let (mistakable, longest) = (floor.radio.mistakable, floor.longest);
+    let Blocked { once, again } = floor.blocked;
     let Counts {
         pages,
         short,
@@ -136,7 +137,8 @@ read to their end: {listings}, of them {changed} of boxes that changed between t
 pages of each box, read with nothing between them, were held to its listing.
 Returns of many boxes, all in {RETURNS_BIN}, were cleared by the goods-in desk in one remove: the longest context
 of the day has {longest} dots of {CONTEXT_DOTS_MAX}.
-Dots that stay in a tombstone after the last compaction: at most {left} of {TOMBSTONE_DOTS_MAX} in a box.
+Calls that met a tombstone too full for their dots: {once}; that met it again after the compaction
+that followed, which leaves the tombstone empty: {again}.
 
 Bins that the lamps of each box light at the end of the day, and whether its listing is that of the
 rule of what it accepted and that of one rule of all messages, both computed apart from the boxes:

@@ -29,7 +29,7 @@ pub struct Station {
     rule: Rule,
     /// By the message's number: whether it was accepted, in a call that was kept.
     accepted: Vec<bool>,
-    /// Messages refused with 10, 11 or 12, to be taken in again. In working memory only.
+    /// Messages refused with 10 or 12, to be taken in again. In working memory only.
     pub later: Vec<usize>,
     /// Messages accepted since those were last tried.
     pub fresh: usize,

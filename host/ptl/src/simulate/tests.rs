@@ -69,6 +69,15 @@ fn a_live_key_that_compaction_drops_is_told() {
 }
 
 #[test]
+fn a_compaction_that_leaves_dots_is_told() {
+    let line = told(Fault::KeylessDotsStay);
+    assert!(
+        line.ends_with("compacts and yet has dots in its tombstone"),
+        "{line}"
+    );
+}
+
+#[test]
 fn a_lamp_that_is_lit_for_a_dead_label_is_told() {
     assert!(told(Fault::DeadLabelListed).contains("the lamp of "));
 }

@@ -362,7 +362,7 @@ pub fn stores(recording: &mut Recording) {
     node.compact();
 }
 
-/// A tombstone of 128 dots: one more is refused, one that is in it is not.
+/// A tombstone of 128 dots: one more is refused, one that is in it is not. A compaction empties it.
 pub fn full_tombstone(recording: &mut Recording) {
     let mut node = recording.start(2, 7, b"R1", 64);
     for actor in [2, 3, 2, 3] {
@@ -378,6 +378,7 @@ pub fn full_tombstone(recording: &mut Recording) {
     node.remove(&dots(&dots_of(3, 1..=MOST)));
     node.take(&sent);
     node.compact();
+    assert_eq!(node.state().count, 0);
     node.take(&add_message(b"R1", b"B8", (9, 1), &[(3, 64)]));
     node.remove(&dots(&[(9, 1)]));
     node.list(AMPLE);

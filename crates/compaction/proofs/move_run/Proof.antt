@@ -1,14 +1,11 @@
--- The piece is left out, stands there already, or moves down.
-use Rattle.compaction.proofs.Pieces.{piece-left-out, piece-in-place, piece-moved}
+-- The run stands there already, or moves down.
+use Rattle.compaction.proofs.Runs.{run-in-place, run-moved}
 use borrow.Author.Needs.{needs}
-use Rattle.compaction.proofs.keep_piece.Statement.{statement}
-use Rattle.compaction.proofs.keep_piece.Tie as tie
+use Rattle.compaction.proofs.move_run.Statement.{statement}
+use Rattle.compaction.proofs.move_run.Tie as tie
 
 returns : tie.Need-returns
-returns c = search (needs, piece-left-out)
-
-returns-2 : tie.Need-returns-2
-returns-2 c = search (needs, piece-in-place)
+returns c = search (needs, run-in-place)
 
 sub-shift-down : tie.Need-sub-shift-down
 sub-shift-down c = search needs
@@ -34,15 +31,14 @@ sub-result-2 c = search needs
 same-length : tie.Need-same-length
 same-length c = search needs
 
-returns-3 : tie.Need-returns-3
-returns-3 c = search (needs, piece-moved)
+returns-2 : tie.Need-returns-2
+returns-2 c = search (needs, run-moved)
 
-pub keep-piece-spec : {M : Type 1} → statement M
-keep-piece-spec =
+pub move-run-spec : {M : Type 1} → statement M
+move-run-spec =
     tie.close
     (tie.spec
     returns
-    returns-2
     sub-shift-down
     part-shift-down-start
     part-shift-down-end
@@ -51,4 +47,4 @@ keep-piece-spec =
     sub-result
     sub-result-2
     same-length
-    returns-3)
+    returns-2)
