@@ -1,5 +1,5 @@
 /* The first day of two controllers: cases A1, A2, R1 and C1 of document 01 through the C interface, every byte compared, with a remove that
-   comes twice; and a listing read in pages. Exits 1 on the first difference.
+   comes twice; a listing read in pages, and one of both controllers. Exits 1 on the first difference.
 
      cc -std=c99 -Iinclude -o first_day examples/first_day.c target/staticlib/libcapi.a
 */
@@ -44,6 +44,10 @@ static const uint8_t lists_2_1[] = {2, 0x42, 0x37, 0, 1, DOT(2, 1)};
 static const uint8_t add_a[] = {0x50, 0x54, 0x4C, 0, 1, 0x61, 2, 0x52, 0x31, 1, 0x41, DOT(3, 1), 0};
 static const uint8_t add_c[] = {0x50, 0x54, 0x4C, 0, 1, 0x61, 2, 0x52, 0x31, 1, 0x43, DOT(3, 2), 0};
 static const uint8_t lists_three[] = {1, 0x41, 0, 1, DOT(3, 1), 2, 0x42, 0x37, 0, 1, DOT(2, 1), 1, 0x43, 0, 1, DOT(3, 2)};
+
+/* The remove of C, and the listing without it. */
+static const uint8_t remove_c[] = {0x50, 0x54, 0x4C, 0, 1, 0x72, 2, 0x52, 0x31, 1, DOT(3, 2)};
+static const uint8_t lists_two[] = {1, 0x41, 0, 1, DOT(3, 1), 2, 0x42, 0x37, 0, 1, DOT(2, 1)};
 
 static void expect_number(const char *what, uint64_t is, uint64_t must)
 {
@@ -157,6 +161,21 @@ static void lists_in_pages(const struct controller *c, const uint8_t *listing, s
     expect_number("labels of all pages", listed, labels);
 }
 
+/* One listing of two controllers, in an output as long as it; a byte less is too short. */
+static void list_together(const struct controller *a, const struct controller *b, const uint8_t *listing, size_t listing_len, size_t labels)
+{
+    struct output out;
+    size_t listed = 0;
+    uint8_t answer = ptl_merge(a->state, sizeof a->state, a->store, sizeof a->store, b->state, sizeof b->state, b->store, sizeof b->store,
+                               out.bytes, listing_len - 1, &out.written, &listed);
+    expect_number("merged read, too short", answer, PTL_OUTPUT_SHORT);
+    answer = ptl_merge(a->state, sizeof a->state, a->store, sizeof a->store, b->state, sizeof b->state, b->store, sizeof b->store, out.bytes,
+                       listing_len, &out.written, &listed);
+    expect_number("merged read", answer, PTL_DONE);
+    expect_bytes("merged read", out.bytes, out.written, listing, listing_len);
+    expect_number("labels of both", listed, labels);
+}
+
 /* The used length; the tombstone's dots, zeros to its end, and behind them their number, which its last byte has room for. */
 static void holds(const struct controller *c, uint64_t used, const uint8_t *tombstone, size_t tombstone_len)
 {
@@ -217,6 +236,16 @@ int main(void)
     take_in(&one, add_c, sizeof add_c);
     lists_in_pages(&one, lists_three, sizeof lists_three, 3);
 
-    printf("A1, A2, R1 and C1 as in document 01, R1 with its remove twice; a listing in pages\n");
+    /* Asked together with another, which has not heard of A, has added B7 itself and has heard that C is removed: A and B7, which neither
+       lists alone. Either may be first, and both may be one. */
+    set_up(&two, 2);
+    add(&two, none, 0, add_2_1, sizeof add_2_1);
+    take_in(&two, remove_c, sizeof remove_c);
+    lists(&two, lists_2_1, sizeof lists_2_1, 1, 19);
+    list_together(&one, &two, lists_two, sizeof lists_two, 2);
+    list_together(&two, &one, lists_two, sizeof lists_two, 2);
+    list_together(&one, &one, lists_three, sizeof lists_three, 3);
+
+    printf("A1, A2, R1 and C1 as in document 01, R1 with its remove twice; a listing in pages, and one of two controllers\n");
     return 0;
 }

@@ -1,6 +1,7 @@
 /* How much stack the calls take. Each call runs on a painted stack of its own; what is counted are the bytes from the caller's frame down to
    the lowest one that changed, so the caller's few are in. Prints the most for each function over calls on full stores and full tombstones,
-   accepted and refused, and exits 1 if one is over STACK_ENOUGH, the number that docs/INTEGRATION.md gives.
+   accepted and refused, and exits 1 if one is over STACK_ENOUGH, or a merged read, which holds two states, over STACK_ENOUGH_TWO: the
+   numbers that docs/INTEGRATION.md gives.
 
      cc -std=c99 -O2 -Wl,-z,now -Iinclude -o stack examples/stack.c target/staticlib/libcapi.a
 
@@ -14,6 +15,7 @@
 #include "ptl.h"
 
 #define STACK_ENOUGH 8192
+#define STACK_ENOUGH_TWO 16384
 #define PAINT 0xA5
 
 /* ---- measuring */
@@ -57,10 +59,10 @@ static size_t taken(void (*call)(void))
 
 static struct box {
     uint8_t state[PTL_STATE_SIZE], store[PTL_STORE_MAX];
-} boxes[3], *box = boxes;
+} boxes[3], *box = boxes, *other = boxes;
 
 static uint8_t set_name[PTL_NAME_MAX], label[PTL_LABEL_MAX], context[PTL_CONTEXT_MAX];
-static uint8_t message[PTL_MESSAGE_MAX], key[PTL_KEY_MAX], listing[PTL_STORE_MAX];
+static uint8_t message[PTL_MESSAGE_MAX], key[PTL_KEY_MAX], listing[2 * PTL_STORE_MAX];
 static size_t context_len, start_len, message_len, key_len, listing_room, written, labels, place, length;
 static uint8_t actor, answer, byte;
 static bool more;
@@ -109,6 +111,12 @@ static void page(void)
                       &labels, &more);
 }
 
+static void merge(void)
+{
+    answer = ptl_merge(box->state, sizeof box->state, box->store, sizeof box->store, other->state, sizeof other->state, other->store,
+                       sizeof other->store, listing, listing_room, &written, &labels);
+}
+
 static void lookup(void)
 {
     struct ptl_bytes found = {box->store, 0};
@@ -150,6 +158,7 @@ static struct row {
     {"ptl_take_in", take_in, 0, 0, 0},
     {"ptl_list", list, 0, 0, 0},
     {"ptl_page", page, 0, 0, 0},
+    {"ptl_merge", merge, 0, 0, 0},
     {"ptl_lookup", lookup, 0, 0, 0},
     {"ptl_compact", compact, 0, 0, 0},
     {"ptl_write_key", write_key, 0, 0, 0},
@@ -241,10 +250,24 @@ static void pages(size_t at, size_t bytes)
     }
 }
 
+/* Merged reads with each box, itself too: outputs with room for all, for what was listed and for nothing. */
+static void merges(size_t at)
+{
+    for (other = boxes; other < boxes + 3; other++) {
+        listing_room = sizeof listing;
+        measure(at, merge);
+        listing_room = written;
+        measure(at, merge);
+        listing_room = 0;
+        measure(at, merge);
+    }
+}
+
 /* Calls that read: outputs with room for all, for what was listed, for a few labels and for nothing; labels that are there, and one that is
    not. */
 static void reads(size_t at)
 {
+    merges(at);
     listing_room = sizeof listing;
     measure(at, list);
     listing_room = written;
@@ -310,10 +333,10 @@ int main(void)
     }
     longest(made);
     damaged();
-    size_t most = 0;
+    bool enough = true;
     for (const struct row *row = rows; row < rows + ROWS; row++) {
         printf("%-17s%5zu bytes (%zu accepted, %zu refused)\n", row->name, row->most, row->accepted, row->refused);
-        most = row->most > most ? row->most : most;
+        enough = enough && row->most <= (row->call == merge ? STACK_ENOUGH_TWO : STACK_ENOUGH);
     }
-    return most <= STACK_ENOUGH ? 0 : 1;
+    return enough ? 0 : 1;
 }

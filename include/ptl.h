@@ -9,7 +9,8 @@
    3. A result is one of the numbers below. On a refusal (any but PTL_DONE) state, store and output buffer keep their bytes, and counts
       and decoded fields are 0. ptl_set_up alone is different: see there.
    4. Any argument values are answered: damaged states and stores, bytes of any kind, buffers of any length.
-   5. A controller is its state block and its store. Calls on different controllers may run at the same time; calls on one may not.
+   5. A controller is its state block and its store. Calls on different controllers may run at the same time; calls on one may not. A merged
+      read is a call on both of its controllers.
    6. Output past the bytes written, and store past the larger of the old and the new used length, keep their values.
    7. The library is machine code for x86-64 Linux and its calling convention alone (target x86_64-unknown-linux-gnu); size_t has 8 bytes.
 */
@@ -35,7 +36,7 @@ typedef char ptl_size_t_has_8_bytes[sizeof(size_t) == 8 ? 1 : -1];
 
 /* The version of this interface: 100 * major + minor. A higher minor number adds functions and macros and keeps all that was there, the
    block too. Under another major number a function, a limit, a format or the block may be another: see docs/INTEGRATION.md, "Versions". */
-#define PTL_VERSION 400
+#define PTL_VERSION 401
 
 /* The version that the library has: PTL_VERSION of the header that goes with it. */
 uint32_t ptl_version(void);
@@ -124,7 +125,7 @@ enum {
     PTL_BAD_SHAPE = 4,       /* a message's kind is unknown, its fields run past the end or bytes are left over; or bytes given as a key are none */
     PTL_BAD_NAME = 5,        /* set name, label, or an actor given to set-up or to a key, breaks its rule; or the label of an add does not print */
     PTL_BAD_DOT = 6,         /* a dot, a context or a key's counter breaks its rule, or an add's context has its own dot */
-    PTL_OTHER_SET = 7,       /* message is for another set */
+    PTL_OTHER_SET = 7,       /* message is for another set, or two controllers are of different sets */
     PTL_OWN_AHEAD = 8,       /* an offered dot of this controller's own actor, but for the one an own add takes, is above its own base */
     PTL_COUNTER_END = 9,     /* own add with the own base at the largest counter */
     PTL_TOO_FAR = 10,        /* among all seen and offered dots together, one lies more than PTL_WINDOW above its actor's unbroken run from 1 */
@@ -169,6 +170,16 @@ uint8_t ptl_list(const uint8_t *state, size_t state_len, const uint8_t *store, s
    On a refusal *more is false. */
 uint8_t ptl_page(const uint8_t *state, size_t state_len, const uint8_t *store, size_t store_len, const uint8_t *start, size_t start_len,
                  uint8_t *out, size_t out_len, size_t *written, size_t *labels, bool *more);
+
+/* Reads two controllers of one set as one: lists *labels labels in *written bytes of out, in the form of ptl_list. A label's dot is kept if
+   both list it under that label, or if one lists it and the other's clock has not seen it; a label without such a dot is not listed. For
+   a terminal that asks two racks which have not heard the same: it so shows what either alone does not know, and nothing that one of them
+   knows to be removed. Which of the two is first makes no difference, and both may be the same controller, in the same memory. Nothing of
+   either is changed. As many bytes as both have used are always enough for out. Answers 1 if either is damaged, or a store is longer than
+   PTL_STORE_MAX; then 7 if they are of different sets; then 13. */
+uint8_t ptl_merge(const uint8_t *first, size_t first_len, const uint8_t *first_store, size_t first_store_len, const uint8_t *second,
+                  size_t second_len, const uint8_t *second_store, size_t second_store_len, uint8_t *out, size_t out_len, size_t *written,
+                  size_t *labels);
 
 /* A stretch of lent bytes. */
 struct ptl_bytes {

@@ -22,11 +22,12 @@ use Rattle.store.specs.Valid.{usedOk, storeOk}
 use Rattle.listing.specs.Listing.{listingBytes}
 use Rattle.replica.specs.Machine.{messagesOf, apply, compacted, listing, found, effect}
 use Rattle.replica.specs.Page.{fitting, firstFits}
+use Rattle.replica.specs.Read.{mergedEntries}
 use Rattle.replica.specs.Rule.{countOwnAdd, historyFrom, ruleListing}
 use Rattle.calls.specs.State.{view}
 use Rattle.calls.specs.Damage.{stateNameOk, tombstoneOk, damaged}
 use Rattle.calls.specs.Effect.{stateOf, storeOf}
-use Rattle.calls.specs.Calls.{setUp, ownAddResult, ownRemoveResult, takeInResult, listResult, pageResult, moreFollow, lookupResult, compactResult}
+use Rattle.calls.specs.Calls.{setUp, ownAddResult, ownRemoveResult, takeInResult, listResult, pageResult, moreFollow, mergeResult, lookupResult, compactResult}
 use Rattle.calls.specs.Sequence.{resultOf, run, callOf, events, messageBytesOf, traffic}
 use Rattle.calls.specs.Cases.{dot, answersOf, lastOutput, shown, StarredCases}
 use Rattle.calls.specs.Line.{LineCases}
@@ -36,7 +37,7 @@ use Rattle.calls.specs.Premises.{PremisesMet, TwoLabels}
 
 -- all that the cases compute with: whoever unfolds this unfolds each of these
 computing : Unit {0}
-unfolding keep any all compareLists member ascendsFrom ascends insert insertAll bigEndian fromBigEndian zeroAt textOk labelPrints dotOk ascendingDots dotBytes dotsBytes dotsAt dotsOf prepend linesOf testBit seen wellFormed trailingOnes settled marked join total known climb unbroken windowEvents tooFar rowAt withRow sees allTo rowsOk clockOk joinDot joinEach joinAll countersOf near namesOk keyCounterOk afterType keyBytes fieldsAs isKey entryKey keyEntry messageBytes layoutOf markOk versionOk shapeOk messageAt nameOf messageOf endToEnd storeBytes keyLength keysAfter keyLabel keyDot entriesIn usedOk storeOk listingBytes fitting firstFits apply compacted listing found effect view stateNameOk tombstoneOk damaged stateOf storeOf setUp ownAddResult ownRemoveResult takeInResult listResult pageResult moreFollow lookupResult compactResult resultOf run answersOf lastOutput shown writeAnswer readAnswer countOwnAdd historyFrom ruleListing messagesOf callOf events messageBytesOf traffic mathlib.Core.List.flatMap
+unfolding keep any all compareLists member ascendsFrom ascends insert insertAll bigEndian fromBigEndian zeroAt textOk labelPrints dotOk ascendingDots dotBytes dotsBytes dotsAt dotsOf prepend linesOf testBit seen wellFormed trailingOnes settled marked join total known climb unbroken windowEvents tooFar rowAt withRow sees allTo rowsOk clockOk joinDot joinEach joinAll countersOf near namesOk keyCounterOk afterType keyBytes fieldsAs isKey entryKey keyEntry messageBytes layoutOf markOk versionOk shapeOk messageAt nameOf messageOf endToEnd storeBytes keyLength keysAfter keyLabel keyDot entriesIn usedOk storeOk listingBytes fitting firstFits apply compacted listing found effect view stateNameOk tombstoneOk damaged stateOf storeOf setUp ownAddResult ownRemoveResult takeInResult listResult pageResult moreFollow lookupResult compactResult resultOf run answersOf lastOutput shown writeAnswer readAnswer countOwnAdd historyFrom ruleListing messagesOf callOf events messageBytesOf traffic mathlib.Core.List.flatMap mergedEntries mergeResult
 computing = tt
 
 pub starred-cases : StarredCases
@@ -84,6 +85,12 @@ line-cases = record {
   older-listed = refl;
   older-found = refl;
   older-dropped = refl;
+  merge-dropped = refl;
+  merge-other-way = refl;
+  merge-itself = refl;
+  merge-output = refl;
+  merge-empty = refl;
+  merge-past = refl;
 }
 
 pub order-cases : OrderCases
@@ -96,6 +103,7 @@ order-cases = record {
   full-tombstone = refl;
   list = refl;
   page = refl;
+  merge = refl;
   lookup = refl;
   read-message = refl;
   write-key = refl;
@@ -133,6 +141,7 @@ premises-met = record {
   labels = refl;
   next-1 = refl;
   next-2 = refl;
+  merge = refl;
 }
 
 pub two-labels : TwoLabels
@@ -143,4 +152,5 @@ two-labels = record {
   other-order = refl;
   one-removed = refl;
   both-removed = refl;
+  merged = refl;
 }

@@ -18,14 +18,15 @@ use Rattle.listing.specs.Listing.{lineSize, listingBytes}
 use Rattle.replica.specs.Page.{pageAfter, pageMore}
 use Rattle.replica.specs.Machine.{compact, effect, compacted, listing, found, messagesOf as machineMessages}
 use Rattle.replica.specs.Rule.{History, noHistory, noted, historyFrom, pairs, livePairs, ruleListing, OneLabelPerDot}
+use Rattle.replica.specs.Read.{readOf, mergedLines}
 use Rattle.replica.specs.Demand3.{Life, endOf as lifeEnd, accepted, trafficOf as lifeTraffic, Follows as MachineFollows, Agree as MachineAgree}
-use Rattle.replica.proofs.Listings.{fewer}
-use Rattle.replica.proofs.RowClock.{controllers-follow, controllers-agree}
+use Rattle.replica.proofs.Listings.{fewer, is-listing}
+use Rattle.replica.proofs.RowClock.{controllers-follow, controllers-agree, controllers-merge}
 use Rattle.calls.specs.State.{clockModel, nameOf, view}
 use Rattle.calls.specs.Effect.{tombstoneOf, stateOf}
-use Rattle.calls.specs.Calls.{Result, Looked, listRefusals, listResult, moreFollow, lookupResult}
-use Rattle.calls.specs.Sequence.{Input, addInput, removeInput, messageInput, readInput, listInput, pageInput, lookupInput, compactInput, Held, started, resultOf, accepts, output, heldAfter, step, callOf, events, messageBytesOf, traffic}
-use Rattle.calls.specs.Demand3.{Accepted, Follows, Agree, Controlled, messagesOf, trafficOf, endOf, Demand3}
+use Rattle.calls.specs.Calls.{Result, Looked, listRefusals, listResult, moreFollow, lookupResult, mergeLines, mergeRefusals, mergeResult}
+use Rattle.calls.specs.Sequence.{Input, addInput, removeInput, messageInput, readInput, listInput, pageInput, lookupInput, compactInput, Held, started, resultOf, accepts, output, heldAfter, step, callOf, events, messageBytesOf, traffic, mergeOf}
+use Rattle.calls.specs.Demand3.{Accepted, Follows, Agree, Controlled, messagesOf, trafficOf, endOf, Demand3, MergeAccepted, Merges}
 use Rattle.calls.proofs.Reading.{used-after, viewOf}
 use Rattle.calls.proofs.Decided.{looked-done, Sized}
 use Rattle.calls.proofs.Accepted.{compact-accepted}
@@ -33,7 +34,7 @@ use Rattle.calls.proofs.Instance.{lines-put, same-view, is-machine, Siz
 use Rattle.calls.proofs.Paging.{page-gives}
 use Rattle.calls.proofs.Sequences.{run-same, events-same, traffic-same, run-name, traffic-named, startOf, start-view, start-name}
 
--- ---- what accepted listings, pages, lookups and compactions show
+-- ---- what accepted listings, pages, lookups, compactions and merged reads show
 
 module _ (h : Held) (sized : Sized h) where
   same-listing : (past : Bytes) → listing clockModel (view (h .state) (h .used ++ past)) ≡ listing clockModel (viewOf h)
@@ -79,6 +80,18 @@ module _ (h : Held) (sized : Sized h) where
 pub compacted-tombstone : (h : Held) (past : Bytes) → Accepted h (compactInput past) → step h (compactInput past) .state .tombstone ≡ tombstoneOf []
 unfolding resultOf effect compacted stateOf
 compacted-tombstone h past acc = ap (λ (r : Result). r .state .tombstone) (compact-accepted (h .state) (h .used ++ past) acc .result-is)
+
+-- a merged read of two, of the lines that are theirs
+merged-is : (h : Held) → Sized h → (k : Held) → Sized k → (ls : List Line) → mergedLines clockModel (readOf clockModel (viewOf h)) (readOf clockModel (viewOf k)) ≡ ls
+    → (past past′ out : Bytes) → MergeAccepted h k past past′ out → (output (mergeOf h k past past′ out) ≡ listingBytes ls) × (mergeOf h k past past′ out .labels ≡ length ls)
+unfolding mergeResult
+merged-is h sized k sized′ ls e past past′ out acc =
+    let store : Bytes = h .used ++ past in
+    let store′ : Bytes = k .used ++ past′ in
+    let put = lines-put (h .state) store out (mergeRefusals (h .state) store (k .state) store′ out) (mergeLines (h .state) store (k .state) store′) acc in
+    let lines : mergeLines (h .state) store (k .state) store′ ≡ ls =
+    (λ i. mergedLines clockModel (readOf clockModel (same-view h sized past i)) (readOf clockModel (same-view k sized′ past′ i))) ∙ e in
+    (put .0 ∙ ap listingBytes lines, put .1 ∙ ap length lines)
 
 -- ---- through the bytes
 
@@ -130,6 +143,13 @@ agree-held ms x y n a = record {
     sizes : (past past′ : Bytes) → step (x .0) (compactInput past) .used ≡ step (y .0) (compactInput past′) .used → step (x .0) (compactInput past) .state .used ≡ step (y .0) (compactInput past′) .state .used
     sizes past past′ e = sym (stepped x (compactInput past) .1) ∙ ap length e ∙ stepped y (compactInput past′) .1
 
+merges-held : (ms : List Message) (x y : SizedHeld) → mergedLines clockModel (readOf clockModel (viewOf (x .0))) (readOf clockModel (viewOf (y .0))) ≡ ruleListing ms → Merges ms (x .0) (y .0)
+merges-held ms x y lines = record {
+  rule-means = is-listing ms;
+  listing-is = λ past past′ out acc. merged-is (x .0) (x .1) (y .0) (y .1) (ruleListing ms) lines past past′ out acc .0;
+  labels-are = λ past past′ out acc. merged-is (x .0) (x .1) (y .0) (y .1) (ruleListing ms) lines past past′ out acc .1;
+}
+
 -- ---- two that exchanged the same messages are of one set, or hold nothing
 
 append-none : {A : Type 0} (xs ys : List A) → xs ++ ys ≡ [] → (xs ≡ []) × (ys ≡ [])
@@ -172,7 +192,7 @@ same-decoded xs ys same m = (over xs ys (λ s. same s .0), over ys xs (λ s. sam
     over : (us vs : List Bytes) → ((s : Bytes) → s ∈ us → s ∈ vs) → m ∈ map messageOf us → m ∈ map messageOf vs
     over us vs to k = let r = Memᴰ·of-map messageOf us k in subst (λ z. z ∈ map messageOf vs) (r .2) (Memᴰ·map messageOf (to (r .0) (r .1)))
 
--- ---- the two claims
+-- ---- the claims
 
 module _ (c : Controlled) where
   -- its life, as the machine has it
@@ -223,5 +243,18 @@ module _ (c d : Controlled) (same : SameMembers (trafficOf c) (trafficOf d)) whe
   demand3-agree =
       subst (λ h. Agree both h (endOf d)) (reached-is c) (subst (λ k. Agree both (reached c .0) k) (reached-is d) (agree-held both (reached c) (reached d) same-name machines-agree))
 
+module _ (c d : Controlled) (single : OneLabelPerDot (pairs (messagesOf c ++ messagesOf d))) where
+  -- the lines of both as they are held
+  machines-merge : mergedLines clockModel (readOf clockModel (viewOf (reached c .0))) (readOf clockModel (viewOf (reached d .0))) ≡ ruleListing (messagesOf c ++ messagesOf d)
+  unfolding reached
+  machines-merge =
+      let both : accepted clockModel controller (lifeOf c) ++ accepted clockModel controller (lifeOf d) ≡ messagesOf c ++ messagesOf d = λ i. accepted-is c i ++ accepted-is d i in
+      controllers-merge controller (lifeOf c) (lifeOf d) (subst (λ ms. OneLabelPerDot (pairs ms)) (sym both) single) ∙ ap ruleListing both
+
+  demand3-merge : Merges (messagesOf c ++ messagesOf d) (endOf c) (endOf d)
+  demand3-merge =
+      let ms : List Message = messagesOf c ++ messagesOf d in
+      subst (λ h. Merges ms h (endOf d)) (reached-is c) (subst (λ k. Merges ms (reached c .0) k) (reached-is d) (merges-held ms (reached c) (reached d) machines-merge))
+
 pub demand-3 : Demand3
-demand-3 = record { follows = demand3-follows; agree = demand3-agree }
+demand-3 = record { follows = demand3-follows; agree = demand3-agree; merge = demand3-merge }

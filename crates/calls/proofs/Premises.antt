@@ -15,7 +15,7 @@ use Rattle.replica.specs.Rule.{pairs, OneLabelPerDot}
 use Rattle.keys.specs.Cases.{R1, B7}
 use Rattle.messages.specs.Cases.{a1}
 use Rattle.calls.specs.Cases.{a2}
-use Rattle.calls.specs.Demand3.{Follows, Agree, Controlled, messagesOf, trafficOf, endOf}
+use Rattle.calls.specs.Demand3.{Follows, Agree, Merges, Controlled, messagesOf, trafficOf, endOf}
 use Rattle.calls.specs.Premises.{calls1, calls2}
 use Rattle.calls.proofs.Demand3.{demand-3}
 use Rattle.calls.proofs.Cases.{premises-met}
@@ -52,3 +52,6 @@ first-follows = demand-3 .follows first
 
 pub both-agree : Agree (messagesOf first ++ messagesOf second) (endOf first) (endOf second)
 both-agree = demand-3 .agree first second same-traffic
+
+pub both-merge : Merges (messagesOf first ++ messagesOf second) (endOf first) (endOf second)
+both-merge = demand-3 .merge first second both-labels

@@ -31,7 +31,7 @@ use Rattle.calls.specs.declared.State.{State}
 use Rattle.calls.specs.State.{clockModel, nameOf, tombstoneDots, view}
 use Rattle.calls.specs.Damage.{tombstoneOk, damaged}
 use Rattle.calls.specs.Effect.{padded, keysPart, stateOf, storeOf, putOut}
-use Rattle.calls.specs.Calls.{setUp, freshState, Result, Looked, refused, decided, performed, ownAddRefusals, ownAddDone, ownAddResult, ownRemoveRefusals, ownRemoveDone, ownRemoveResult, takeInRefusals, takeInDone, takeInResult, listRefusals, listDone, listResult, pageRefusals, pageDone, pageResult, moreFollow, notLooked, lookupRefusals, lookupDone, lookupResult, compactRefusals, compactDone, compactResult}
+use Rattle.calls.specs.Calls.{setUp, freshState, Result, Looked, refused, decided, performed, ownAddRefusals, ownAddDone, ownAddResult, ownRemoveRefusals, ownRemoveDone, ownRemoveResult, takeInRefusals, takeInDone, takeInResult, listRefusals, listDone, listResult, pageRefusals, pageDone, pageResult, moreFollow, mergeRefusals, mergeDone, mergeResult, notLooked, lookupRefusals, lookupDone, lookupResult, compactRefusals, compactDone, compactResult}
 use Rattle.calls.specs.Exchange.{receiverRefusals}
 use Rattle.calls.specs.Unchanged.{Refused, Unchanged, NothingFound, zeroState, RefusalsLeave, TombstoneFits, EmptyRemoves}
 use Rattle.calls.proofs.Decided.{decided-refused}
@@ -65,7 +65,7 @@ set-up-leaves a true done e ref = absurd (ref (eqb-true _ 0 e))
 set-up-leaves a false done e ref = refl
 
 pub refusals-leave : RefusalsLeave
-unfolding setUp ownAddResult ownRemoveResult takeInResult listResult pageResult moreFollow lookupResult compactResult damaged
+unfolding setUp ownAddResult ownRemoveResult takeInResult listResult pageResult moreFollow mergeResult lookupResult compactResult damaged
 refusals-leave = record {
   own-add = λ st store label context out. refusal-leaves st store out (ownAddRefusals st store label context out) (ownAddDone st store label context out) refl;
   own-remove = λ st store context out. refusal-leaves st store out (ownRemoveRefusals st store context out) (ownRemoveDone st store context out) refl;
@@ -75,6 +75,7 @@ refusals-leave = record {
     refusal-leaves st store out (pageRefusals st store start out) (pageDone st store start out) refl ref,
     rw (refusal-first st store out (pageRefusals st store start out) (pageDone st store start out) refl ref),
   );
+  merge = λ st store st′ store′ out. refusal-leaves st store out (mergeRefusals st store st′ store′ out) (mergeDone st store st′ store′ out) refl;
   lookup = λ st store label. lookup-leaves (firstOf (lookupRefusals st store label)) (eqb (numberOf (firstOf (lookupRefusals st store label))) 0) (lookupDone st store label) refl;
   compact = λ st store. refusal-leaves st store [] (compactRefusals st store) (compactDone st store) refl;
   set-up = λ actor name. set-up-leaves (setUp actor name .answer) (eqb (numberOf (setUp actor name .answer)) 0) (freshState actor name) refl;

@@ -20,6 +20,7 @@ use Rattle.messages.specs.Read.{nameOf as messageName, messageOf, readRefusals}
 use Rattle.store.specs.Cut.{storeBytes}
 use Rattle.listing.specs.Listing.{lineSize, listingBytes}
 use Rattle.replica.specs.Page.{pageAfter, pageFits, pageMore}
+use Rattle.replica.specs.Read.{readOf, mergedLines}
 use Rattle.replica.specs.Machine.{Call, ownAdd, ownRemove, takeIn, compact, effect, nextDot, ifUnseen, listing, found}
 use Rattle.calls.specs.declared.State.{State}
 use Rattle.calls.specs.declared.SetUp.{SetUp}
@@ -194,6 +195,28 @@ module _ (st : State) (store start out : Bytes) where
   -- whether more follow; a refused page says no
   unfoldable pub moreFollow : Bool
   moreFollow = eqb (numberOf (firstOf pageRefusals)) 0 && pageMore lineSize (listing clockModel (view st store)) start (length out)
+
+-- ---- merged read: "A terminal asks two racks and wants one listing"
+
+-- "A label's dot is kept if both list it under that label, or if one lists it and the other's clock hasn't seen it."
+abbrev pub mergeLines : State → Bytes → State → Bytes → List Line
+mergeLines st store st′ store′ = mergedLines clockModel (readOf clockModel (view st store)) (readOf clockModel (view st′ store′))
+
+module _ (st : State) (store : Bytes) (st′ : State) (store′ out : Bytes) where
+  -- "Either state damaged: 1, then different sets: 7, then 13."
+  abbrev pub mergeRefusals : Refusals
+  mergeRefusals =
+      (damaged st store || damaged st′ store′, Damaged)
+      ∷ (otherSet st store (nameOf st′), OtherSet)
+      ∷ (outputShort out (listingBytes (mergeLines st store st′ store′)), OutputShort)
+      ∷ []
+
+  abbrev pub mergeDone : Result
+  mergeDone = linesPut st store out (mergeLines st store st′ store′)
+
+  -- "No controller's state changes.": the first one's state and store stand in the result as they are, the second's are only lent for reading
+  unfoldable pub mergeResult : Result
+  mergeResult = decided st store out mergeRefusals mergeDone
 
 -- ---- lookup
 

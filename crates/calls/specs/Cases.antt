@@ -89,9 +89,12 @@ row base window = record { base = base; window = window }
 abbrev pub nine : ℕ → ℕ → Bytes
 nine a n = a ∷ 0x00 ∷ 0x00 ∷ 0x00 ∷ 0x00 ∷ 0x00 ∷ 0x00 ∷ 0x00 ∷ n ∷ []
 
--- the listing of B7 with one dot
+-- the listing of B7 with one dot, and of B8
 abbrev pub onlyB7 : ℕ → ℕ → Bytes
 onlyB7 a n = 0x02 ∷ 0x42 ∷ 0x37 ∷ 0x00 ∷ 0x01 ∷ nine a n
+
+abbrev pub onlyB8 : ℕ → ℕ → Bytes
+onlyB8 a n = 0x02 ∷ 0x42 ∷ 0x38 ∷ 0x00 ∷ 0x01 ∷ nine a n
 
 -- the messages of A2's second add and of C1's remove
 abbrev pub a2 : Bytes

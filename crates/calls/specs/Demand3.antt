@@ -7,6 +7,7 @@ use lib.Dec.{T}
 use lib.ListN.{length}
 use Rattle.wire.specs.Lists.{_∈_, SameMembers}
 use Rattle.wire.specs.Bytes.{Bytes}
+use Rattle.dots.specs.Answer.{numberOf}
 use Rattle.dots.specs.declared.Answer.the-variants.{Done}
 use Rattle.dots.specs.declared.Dot.{Dot}
 use Rattle.dots.specs.Names.{Name}
@@ -19,10 +20,13 @@ use Rattle.replica.specs.Page.{pageAfter, pageMore}
 use Rattle.replica.specs.Rule.{pairs, removed, Paired, livePairs, ruleListing, IsListing, OneLabelPerDot}
 use Rattle.calls.specs.Effect.{tombstoneOf}
 use Rattle.calls.specs.Calls.{setUp, moreFollow, lookupResult}
-use Rattle.calls.specs.Sequence.{Input, listInput, pageInput, lookupInput, compactInput, Held, started, resultOf, answerOf, output, step, run, acceptedMessages, traffic}
+use Rattle.calls.specs.Sequence.{Input, listInput, pageInput, lookupInput, compactInput, Held, started, resultOf, answerOf, mergeOf, output, step, run, acceptedMessages, traffic}
 
 abbrev pub Accepted : Held → Input → Type 0
 Accepted h i = answerOf h i ≡ 0
+
+abbrev pub MergeAccepted : Held → Held → Bytes → Bytes → Bytes → Type 0
+MergeAccepted h k past past′ out = numberOf (mergeOf h k past past′ out .answer) ≡ 0
 
 -- What is held is as the rule says of the accepted messages, in a set of this name. The proviso that no two adds give one dot to different labels
 -- stands in each field that needs it.
@@ -67,6 +71,12 @@ pub record Agree (ms : List Message) (h k : Held) : Type 0 where
       → (step h (compactInput past) .state .used ≡ step k (compactInput past′) .state .used)
       × (step h (compactInput past) .used ≡ step k (compactInput past′) .used)
 
+-- a merged read of two controllers, ms being the messages of both, is the rule's listing over them
+pub record Merges (ms : List Message) (h k : Held) : Type 0 where
+  pub rule-means : IsListing ms (ruleListing ms)
+  pub listing-is : (past past′ out : Bytes) → MergeAccepted h k past past′ out → output (mergeOf h k past past′ out) ≡ listingBytes (ruleListing ms)
+  pub labels-are : (past past′ out : Bytes) → MergeAccepted h k past past′ out → mergeOf h k past past′ out .labels ≡ length (ruleListing ms)
+
 -- a controller from its set-up on, with any calls
 pub record Controlled : Type 0 where
   pub actor : ℕ
@@ -86,3 +96,5 @@ endOf c = run (started (c .actor) (c .name)) (c .calls)
 pub record Demand3 : Type 0 where
   pub follows : (c : Controlled) → Follows (c .name) (messagesOf c) (endOf c)
   pub agree : (c d : Controlled) → SameMembers (trafficOf c) (trafficOf d) → Agree (messagesOf c ++ messagesOf d) (endOf c) (endOf d)
+  -- "Same premise as demand 3, taken over both: the merged listing is what demand 3's rule gives over all calls that either accepted."
+  pub merge : (c d : Controlled) → OneLabelPerDot (pairs (messagesOf c ++ messagesOf d)) → Merges (messagesOf c ++ messagesOf d) (endOf c) (endOf d)

@@ -1,4 +1,4 @@
--- The other cases of document 01's "Both sides of the line", its slips that no settled case shows, what calls leave past what they write, pages, and document 02's request 5.
+-- The other cases of document 01's "Both sides of the line", its slips that no settled case shows, what calls leave past what they write, pages, merged reads, and document 02's request 5.
 use Prim.Native.Nat.{ℕ}
 use mathlib.Core.Bool.{Bool, true, false}
 use mathlib.Core.List.{List, [], _∷_, _++_, map}
@@ -17,8 +17,8 @@ use Rattle.keys.specs.Cases.{R1, B7, B70, B8}
 use Rattle.messages.specs.Message.{messageBytes, messageMost}
 use Rattle.messages.specs.Cases.{a1}
 use Rattle.calls.specs.Calls.{Looked, moreFollow, lookupResult}
-use Rattle.calls.specs.Sequence.{Input, addInput, removeInput, messageInput, listInput, pageInput, compactInput, Held, started, resultOf, answerOf, output, run}
-use Rattle.calls.specs.Cases.{dot, dotsFrom, adds, removes, takesIn, compacts, room, row, onlyB7, answersOf, shown}
+use Rattle.calls.specs.Sequence.{Input, addInput, removeInput, messageInput, listInput, pageInput, compactInput, Held, started, resultOf, answerOf, output, run, mergeOf}
+use Rattle.calls.specs.Cases.{dot, dotsFrom, adds, removes, takesIn, compacts, room, row, onlyB7, answersOf, shown, onlyB8}
 
 -- room for the longest message
 abbrev wide : Bytes
@@ -68,6 +68,15 @@ bell = 0x42 ∷ 0x07 ∷ []
 abbrev older : Held
 older = record { state = run fresh (addsLabel B7 [] ∷ []) .state; used = entryKey R1 (entry bell (dot 1 1)) }
 
+-- ---- merged reads: a rack that lists B7 and B8, and one that took in B7's add and its remove, and compacted; it has not seen B8's
+
+abbrev dropped : Held
+dropped = run (started 2 R1) (takesIn (add B7 (dot 1 1) []) ∷ takesIn (remove (dot 1 1 ∷ [])) ∷ compacts ∷ [])
+
+-- of a merged read into this many bytes: the answer, the number of labels, and the bytes
+abbrev merged : Held → Held → ℕ → ℕ × ℕ × Bytes
+merged h k n = let r = mergeOf h k [] room (replicate n 0) in (numberOf (r .answer), r .labels, output r)
+
 pub record LineCases : Type 0 where
   -- "Label of 32 bytes taken, 33: 5."
   pub label-32-33 : answersOf fresh (addsLabel (replicate 32 65) [] ∷ addsLabel (replicate 33 65) [] ∷ []) ≡ 0 ∷ 5 ∷ []
@@ -109,3 +118,12 @@ pub record LineCases : Type 0 where
   pub older-found : lookupResult (older .state) (older .used) bell ≡ record { answer = Done; start = 0; end = 19; listed = true }
   pub older-dropped : shown older (adds [] ∷ addsLabel bell (dot 1 1 ∷ []) ∷ removes (dot 1 1 ∷ []) ∷ compacts ∷ [])
       ≡ record { answers = 0 ∷ 5 ∷ 0 ∷ 0 ∷ []; put-out = []; row-3 = row 0 0; tombstone = []; used = 19; listing = onlyB7 1 2; labels = 1 }
+  -- the dot that the second rack has dropped is not listed, the one that it has not seen is; either may be asked first
+  pub merge-dropped : merged two dropped 14 ≡ (0, 1, onlyB8 1 2)
+  pub merge-other-way : merged dropped two 14 ≡ (0, 1, onlyB8 1 2)
+  -- a rack merged with itself gives its own listing, one byte short none
+  pub merge-itself : merged two two 28 ≡ (0, 2, onlyB7 1 1 ++ onlyB8 1 2)
+  pub merge-output : merged two two 27 ≡ (13, 0, [])
+  pub merge-empty : merged fresh fresh 0 ≡ (0, 0, [])
+  -- the output past the bytes written keeps its values
+  pub merge-past : mergeOf two dropped [] [] (replicate 16 9) .out ≡ onlyB8 1 2 ++ (9 ∷ 9 ∷ [])

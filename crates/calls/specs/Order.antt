@@ -21,7 +21,7 @@ use Rattle.keys.specs.Cases.{R1, B7}
 use Rattle.messages.specs.Message.{messageBytes}
 use Rattle.messages.specs.Read.{readAnswer}
 use Rattle.calls.specs.Effect.{padded, tombstoneOf}
-use Rattle.calls.specs.Sequence.{Input, addInput, removeInput, messageInput, listInput, pageInput, lookupInput, Held, answerOf}
+use Rattle.calls.specs.Sequence.{Input, addInput, removeInput, messageInput, listInput, pageInput, lookupInput, Held, answerOf, mergeOf}
 use Rattle.calls.specs.Cases.{dot, dotsFrom, room, answersOf}
 
 -- the first call on what is damaged, then it and the others on what is whole: a refused call leaves all as it was
@@ -32,17 +32,23 @@ mended broken whole (i ∷ is) = answerOf broken i ∷ answersOf whole (i ∷ is
 -- ---- what is held: actor 1 with this own base, one key, (2,129) seen
 
 -- the window of actor 16 is 0; with bit 0 set the state is damaged
-abbrev held : ℕ → ℕ → List Dot → Held
-held own window dead = record {
+abbrev heldIn : Name → ℕ → ℕ → List Dot → Held
+heldIn name own window dead = record {
   state = record {
     actor = actorOf 1;
-    name = record { bytes = padded 16 R1; len = 2 };
+    name = record { bytes = padded 16 name; len = 2 };
     clock = record { words = own ∷ 0 ∷ 129 ∷ 0 ∷ (replicate 27 0 ++ (window ∷ [])) };
     tombstone = tombstoneOf dead;
     used = 19;
   };
-  used = entryKey R1 (entry B7 (dot 1 1));
+  used = entryKey name (entry B7 (dot 1 1));
 }
+
+abbrev held : ℕ → ℕ → List Dot → Held
+held = heldIn R1
+
+abbrev R2 : Name
+R2 = 0x52 ∷ 0x32 ∷ []
 
 abbrev broken : Held
 broken = held 1 1 []
@@ -87,9 +93,6 @@ removes context = removeInput (dotsBytes context) []
 abbrev message : ℕ → ℕ → Name → Label → Context → Bytes → Bytes
 message mark version name label context rest = 0x50 ∷ 0x54 ∷ mark ∷ 0 ∷ version ∷ (drop 5 (messageBytes name (add label (dot 4 1) context)) ++ rest)
 
-abbrev R2 : Name
-R2 = 0x52 ∷ 0x32 ∷ []
-
 -- wrong mark, version 2, a byte left over, no label, context out of order, another set, and so on; each mended from the one before
 abbrev messages : List Bytes
 messages =
@@ -103,6 +106,10 @@ messages =
     ∷ message 0x4C 1 R1 B7 far []
     ∷ message 0x4C 1 R1 B7 oneMore []
     ∷ []
+
+-- two controllers and an output: the first damaged, the second damaged, different sets, no room
+abbrev merges : List (Held × Held × Bytes)
+merges = (broken, heldIn R2 1 0 [], []) ∷ (whole, heldIn R2 1 1 [], []) ∷ (whole, heldIn R2 1 0 [], []) ∷ (whole, whole, []) ∷ (whole, whole, room) ∷ []
 
 -- a label key, and the output's length
 abbrev keys : List (Key × ℕ)
@@ -140,6 +147,7 @@ pub record OrderCases : Type 0 where
   pub list : mended broken whole (listInput [] [] ∷ listInput [] room ∷ []) ≡ 1 ∷ 13 ∷ 0 ∷ []
   -- a start with a 0 byte breaks its rule, and B7 comes after it
   pub page : mended broken whole (pageInput (0 ∷ []) [] [] ∷ pageInput [] [] [] ∷ pageInput [] [] room ∷ []) ≡ 1 ∷ 5 ∷ 13 ∷ 0 ∷ []
+  pub merge : map (λ (m : Held × Held × Bytes). numberOf (mergeOf (m .0) (m .1) [] [] (m .2) .answer)) merges ≡ 1 ∷ 1 ∷ 7 ∷ 13 ∷ 0 ∷ []
   pub lookup : mended broken whole (lookupInput [] [] ∷ lookupInput B7 [] ∷ []) ≡ 1 ∷ 5 ∷ 0 ∷ []
   -- the formats, which need no state
   pub read-message : map (λ (m : Bytes). numberOf (readAnswer m)) messages ≡ 2 ∷ 3 ∷ 4 ∷ 5 ∷ 6 ∷ 0 ∷ 0 ∷ 0 ∷ 0 ∷ []

@@ -5,14 +5,15 @@ use mathlib.Core.Path.{_≡_}
 use lib.Dec.{isEq}
 use Rattle.wire.specs.Lists.{all}
 use Rattle.wire.specs.Bytes.{compareBytes}
+use Rattle.dots.specs.Answer.{numberOf}
 use Rattle.dots.specs.declared.Answer.the-variants.{Done}
 use Rattle.dots.specs.Entries.{Entry, Line, line}
 use Rattle.dots.specs.Message.{add}
 use Rattle.replica.specs.Rule.{pairs, ruleListing}
 use Rattle.keys.specs.Cases.{R1, B7, B8}
 use Rattle.messages.specs.Cases.{a1}
-use Rattle.calls.specs.Calls.{setUp, listed}
-use Rattle.calls.specs.Sequence.{Input, messageInput, listInput, started, run, acceptedMessages, traffic}
+use Rattle.calls.specs.Calls.{setUp, listed, mergeLines}
+use Rattle.calls.specs.Sequence.{Input, messageInput, listInput, started, run, acceptedMessages, mergeOf, traffic}
 use Rattle.calls.specs.Cases.{dot, room, adds, removes, takesIn, compacts, a2, answersOf}
 
 -- ---- the premises met: actor 1 adds B7 twice, as in A2; actor 2 takes the two messages in, the second first
@@ -37,12 +38,20 @@ pub record PremisesMet : Type 0 where
   -- the calls that demand 3 asks about are accepted next
   pub next-1 : answersOf (run (started 1 R1) calls1) (listInput room room ∷ compacts ∷ []) ≡ 0 ∷ 0 ∷ []
   pub next-2 : answersOf (run (started 2 R1) calls2) (listInput room room ∷ compacts ∷ []) ≡ 0 ∷ 0 ∷ []
+  pub merge : numberOf (mergeOf (run (started 1 R1) calls1) (run (started 2 R1) calls2) room room room .answer) ≡ 0
 
 -- ---- the proviso broken: actor 1 takes in adds of B7 and of B8 under (2,1)
 
 -- what it then lists, and what the rule lists
 abbrev lists : List Input → List Line × List Line
 lists is = let end = run (started 1 R1) is in (listed (end .state) (end .used ++ room) room, ruleListing (acceptedMessages 1 R1 is))
+
+-- what a merged read of it and of actor 3 lists, and what the rule lists over both
+abbrev merges : List Input → List Input → List Line × List Line
+merges is js =
+    let h = run (started 1 R1) is in
+    let k = run (started 3 R1) js in
+    (mergeLines (h .state) (h .used) (k .state) (k .used), ruleListing (acceptedMessages 1 R1 is ++ acceptedMessages 3 R1 js))
 
 abbrev addB7 : Input
 addB7 = takesIn (add B7 (dot 2 1) [])
@@ -65,3 +74,5 @@ pub record TwoLabels : Type 0 where
   pub one-removed : lists (addB7 ∷ addB8 ∷ takesIn (add B8 (dot 2 2) []) ∷ removes (dot 2 2 ∷ []) ∷ []) ≡ (lineB7 ∷ [], lineB7 ∷ lineB8 ∷ [])
   -- with the shared dot removed they agree again, and B8 is gone with B7
   pub both-removed : lists (addB7 ∷ addB8 ∷ removes (dot 2 1 ∷ []) ∷ []) ≡ ([], [])
+  -- two controllers that took in one each: a merged read lists neither, since each has seen the dot and lists it under another label
+  pub merged : merges (addB7 ∷ []) (addB8 ∷ []) ≡ ([], lineB7 ∷ lineB8 ∷ [])

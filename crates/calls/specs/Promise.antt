@@ -19,7 +19,7 @@ pub record Leaves (result : Result) (store out : Bytes) (r : Outcome) : Type 0 w
   pub store-is : store ≡ result .store
   pub out-is : out ≡ result .out
 
--- a listing
+-- a listing, of one controller or merged of two
 pub record Lists (result : Result) (out : Bytes) (r : Listed) : Type 0 where
   pub answered : r .answer ≡ result .answer
   pub written-is : r .written ≡ result .written

@@ -49,7 +49,7 @@ abbrev pub outputShort : Bytes → Bytes → Bool
 outputShort out bytes = ltb (length out) (length bytes)
 
 module _ (st : State) (store : Bytes) where
-  -- 7: "message is for another set"
+  -- 7: "message is for another set"; of a merged read: "different sets"
   abbrev pub otherSet : Name → Bool
   otherSet name = not (isEq (compareBytes name (nameOf st)))
 

@@ -15,9 +15,10 @@ use Rattle.messages.specs.Read.{messageOf}
 use Rattle.replica.specs.Machine.{Call, ownAdd, ownRemove, takeIn, reads, compact}
 use Rattle.replica.specs.Rule.{Event, noHistory, historyFrom}
 use Rattle.calls.specs.declared.State.{State}
-use Rattle.calls.specs.Calls.{setUp, Result, refused, ownAddResult, ownRemoveResult, takeInResult, listResult, pageResult, lookupResult, compactResult}
+use Rattle.calls.specs.Calls.{setUp, Result, refused, ownAddResult, ownRemoveResult, takeInResult, listResult, pageResult, mergeResult, lookupResult, compactResult}
 
--- a call that only reads, with its arguments and the output that is lent to it
+-- A call that only reads, with its arguments and the output that is lent to it. A merged read is none of these: it reads two controllers, leaves what both
+-- hold and changes neither set of either, so it is no call of a sequence but `mergeOf` below.
 pub data Reading : Type 0 where
   listReading : (out : Bytes) → Reading
   pageReading : (start out : Bytes) → Reading
@@ -93,6 +94,10 @@ events h (i ∷ is) = record { call = callOf i; accepted = accepts h i } ∷ eve
 -- label, dot and context of every accepted add, context of every accepted remove; an own add's dot is this actor with the number of its accepted own adds
 abbrev pub acceptedMessages : ℕ → Name → List Input → List Message
 acceptedMessages actor name is = historyFrom (actorOf actor) noHistory (events (started actor name) is) .messages
+
+-- a merged read of two controllers, each with a buffer past its used bytes
+abbrev pub mergeOf : Held → Held → Bytes → Bytes → Bytes → Result
+mergeOf h k past past′ out = mergeResult (h .state) (h .used ++ past) (k .state) (k .used ++ past′) out
 
 -- the bytes put out
 abbrev pub output : Result → Bytes

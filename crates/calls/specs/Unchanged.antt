@@ -18,7 +18,7 @@ use Rattle.calls.specs.declared.State.{State}
 use Rattle.calls.specs.State.{nameOf}
 use Rattle.calls.specs.Damage.{damaged}
 use Rattle.calls.specs.Effect.{putOut}
-use Rattle.calls.specs.Calls.{setUp, Result, Looked, ownAddResult, ownRemoveResult, takeInResult, listResult, pageResult, moreFollow, lookupResult, compactResult}
+use Rattle.calls.specs.Calls.{setUp, Result, Looked, ownAddResult, ownRemoveResult, takeInResult, listResult, pageResult, moreFollow, mergeResult, lookupResult, compactResult}
 use Rattle.clock.specs.Clock.{clockWords}
 use Rattle.dots.specs.Wire.{tombstoneSize}
 
@@ -58,6 +58,8 @@ pub record RefusalsLeave : Type 0 where
   pub list : (st : State) (store out : Bytes) → Refused (listResult st store out .answer) → Unchanged st store out (listResult st store out)
   pub page : (st : State) (store start out : Bytes) → Refused (pageResult st store start out .answer)
       → Unchanged st store out (pageResult st store start out) × (moreFollow st store start out ≡ false)
+  pub merge : (st : State) (store : Bytes) (st′ : State) (store′ out : Bytes) → Refused (mergeResult st store st′ store′ out .answer)
+      → Unchanged st store out (mergeResult st store st′ store′ out)
   pub lookup : (st : State) (store label : Bytes) → Refused (lookupResult st store label .answer) → NothingFound (lookupResult st store label)
   pub compact : (st : State) (store : Bytes) → Refused (compactResult st store .answer) → Unchanged st store [] (compactResult st store)
   -- "A refused set-up gives a state that is zero throughout, ... and so is damaged"

@@ -1,7 +1,7 @@
 -- A call on bytes that are no block leaves what they say; on a block it leaves the controller's result, packed. Assumes nothing.
 use denote.Ref.{RefT}
 use mathlib.Core.Path.{_≡_, refl, sym, ap, _∙_}
-use mathlib.Core.Bool.{Bool, false}
+use mathlib.Core.Bool.{Bool, true, false, cond}
 use Prim.Native.Nat.{ℕ}
 use lib.ListN.{length}
 use borrow.Author.Tests.{eq-eqb, ne-eqb}
@@ -13,10 +13,10 @@ use Rattle.calls.specs.declared.SetUp.{SetUp}
 use Rattle.calls.specs.declared.Outcome.{Outcome}
 use Rattle.calls.specs.declared.Listed.{Listed}
 use Rattle.calls.specs.declared.Paged.{Paged}
-use Rattle.calls.specs.Calls.{Result, notLooked, setUp, pageResult, moreFollow, lookupResult}
+use Rattle.calls.specs.Calls.{Result, notLooked, setUp, pageResult, moreFollow, mergeResult, lookupResult}
 use Rattle.calls.specs.Promise as controller
 use Rattle.block.specs.Block.{blockSize, stateBytes, stateIn}
-use Rattle.capi.specs.Left.{packed, noBlock, onBlock, pageLeft, moreLeft, lookupLeft}
+use Rattle.capi.specs.Left.{isBlock, packed, noBlock, onBlock, pageLeft, moreLeft, mergeLeft, lookupLeft}
 use Rattle.block.proofs.Blocks.{bytes-in-state}
 use Rattle.capi.specs.Promise.{SetsUp, Leaves, Changes, Lists, Pages, LooksUp}
 
@@ -48,6 +48,19 @@ module _ (block : Bytes) (other : length block ≡ blockSize → ⊥) where
         labels-are = is .labels-are;
         more-is = rw (ne-eqb (length block) blockSize other);
       }
+
+  -- as the first of two, or as the second
+  pub not-merged : (store block′ store′ out : Bytes) → Lists (mergeLeft block store block′ store′ out) out 0 0 1
+  unfolding mergeLeft
+  not-merged store block′ store′ out = by (isBlock block′)
+    where
+      by : (b : Bool) → Lists (cond b (onBlock block store out (λ st. mergeResult st store (stateIn block′) store′ out)) (noBlock block store out)) out 0 0 1
+      by true = not-listed store out (λ (st : State). mergeResult st store (stateIn block′) store′ out)
+      by false = record { answered = refl; out-is = refl; written-is = refl; labels-are = refl }
+
+  pub not-merged-second : (block′ store store′ out : Bytes) → Lists (mergeLeft block′ store block store′ out) out 0 0 1
+  unfolding mergeLeft
+  not-merged-second block′ store store′ out = rw (ne-eqb (length block) blockSize other) (record { answered = refl; out-is = refl; written-is = refl; labels-are = refl })
 
   pub not-set-up : (actor : ℕ) (name : Bytes) → SetsUp actor name block block 1
   not-set-up actor name = let none = ne-eqb (length block) blockSize other in record { answered = rw none; block-is = rw none; state-is = rw none }
@@ -119,3 +132,10 @@ module _ (block : Bytes) (size : length block ≡ blockSize) where
           labels-are = pages .labels-are;
           more-is = pages .more-is;
         })
+
+    -- with a second block
+    pub merged : (block′ : Bytes) → length block′ ≡ blockSize → (st′ : State) → st′ ≡ stateIn block′ → (store store′ out out′ : Bytes) (r : ℕ) (done : Listed) → controller.Lists (mergeResult st store st′ store′ out) out′ done
+        → r ≡ numberOf (done .answer) → Lists (mergeLeft block store block′ store′ out) out′ (done .written) (done .labels) r
+    unfolding mergeLeft
+    merged block′ size′ st′ unpacked′ store store′ out out′ r done lists number =
+        rw (eq-eqb (length block′) blockSize size′, ← unpacked′) (listed store out (λ (x : State). mergeResult x store st′ store′ out) out′ r done lists number)

@@ -8,9 +8,9 @@ use borrow.Author.Tests.{eqb-true}
 use Rattle.wire.specs.Bytes.{Bytes, AreBytes}
 use Rattle.dots.specs.Answer.{numberOf, Refusals, firstOf}
 use Rattle.calls.specs.declared.State.{State}
-use Rattle.calls.specs.Calls.{Result, decided, ownAddRefusals, ownAddDone, ownAddResult, takeInRefusals, takeInDone, takeInResult, ownRemoveRefusals, ownRemoveDone, ownRemoveResult, listRefusals, listDone, listResult, pageRefusals, pageDone, pageResult, compactRefusals, compactDone, compactResult}
+use Rattle.calls.specs.Calls.{Result, decided, ownAddRefusals, ownAddDone, ownAddResult, takeInRefusals, takeInDone, takeInResult, ownRemoveRefusals, ownRemoveDone, ownRemoveResult, listRefusals, listDone, listResult, pageRefusals, pageDone, pageResult, mergeRefusals, mergeDone, mergeResult, compactRefusals, compactDone, compactResult}
 use Rattle.block.specs.Block.{blockSize, stateIn}
-use Rattle.capi.specs.Left.{Left, isBlock, onBlock, ownAddLeft, ownRemoveLeft, takeInLeft, listLeft, pageLeft, moreLeft, compactLeft}
+use Rattle.capi.specs.Left.{Left, isBlock, onBlock, ownAddLeft, ownRemoveLeft, takeInLeft, listLeft, pageLeft, moreLeft, mergeLeft, compactLeft}
 use Rattle.calls.proofs.Unchanged.{refusals-leave}
 use Rattle.block.proofs.Blocks.{bytes-in-state}
 
@@ -83,3 +83,14 @@ take-in-kept block store message small = refused-keeps block store [] small (λ 
 pub compact-kept : (block store : Bytes) → AreBytes block → Refused (compactLeft block store) → Kept (compactLeft block store) block store []
 unfolding compactResult
 compact-kept block store small = refused-keeps block store [] small (λ (st : State). compactRefusals st store) (λ (st : State). compactDone st store) (λ st. refl)
+
+module _ (block store block′ store′ out : Bytes) (small : AreBytes block) where
+  by-second : (b : Bool) → isBlock block′ ≡ b → Refused (mergeLeft block store block′ store′ out) → Kept (mergeLeft block store block′ store′ out) block store out
+  unfolding mergeLeft mergeResult
+  by-second true e r =
+      rw e (refused-keeps block store out small (λ (st : State). mergeRefusals st store (stateIn block′) store′ out) (λ (st : State). mergeDone st store (stateIn block′) store′ out) (λ st. refl) (rw e at r))
+  by-second false e r = rw e (record { block-is = refl; store-is = refl; out-is = refl; written-is = refl; labels-are = refl })
+
+  -- a refused merge: the second block and its store are only lent for reading
+  pub merge-kept : Refused (mergeLeft block store block′ store′ out) → Kept (mergeLeft block store block′ store′ out) block store out
+  merge-kept = by-second (isBlock block′) refl

@@ -12,7 +12,7 @@ use Rattle.keys.specs.Key.{Key, typeByte}
 use Rattle.keys.specs.Tests.{kindOf}
 use Rattle.keys.specs.Write.{writeRefusals}
 use Rattle.calls.specs.declared.State.{State}
-use Rattle.calls.specs.Calls.{Result, Looked, notLooked, ownAddResult, ownRemoveResult, takeInResult, listResult, pageResult, moreFollow, lookupResult, compactResult}
+use Rattle.calls.specs.Calls.{Result, Looked, notLooked, ownAddResult, ownRemoveResult, takeInResult, listResult, pageResult, moreFollow, mergeResult, lookupResult, compactResult}
 use Rattle.block.specs.Block.{blockSize, stateBytes, stateIn}
 
 pub record Left : Type 0 where
@@ -60,6 +60,11 @@ pageLeft block store start out = onBlock block store out (λ st. pageResult st s
 -- whether more follow a page; bytes that are no block say no
 unfoldable pub moreLeft : Bytes → Bytes → Bytes → Bytes → Bool
 moreLeft block store start out = cond (isBlock block) (moreFollow (stateIn block) store start out) false
+
+-- a call on two blocks; either may be none
+unfoldable pub mergeLeft : Bytes → Bytes → Bytes → Bytes → Bytes → Left
+mergeLeft block store block′ store′ out =
+    cond (isBlock block′) (onBlock block store out (λ st. mergeResult st store (stateIn block′) store′ out)) (noBlock block store out)
 
 abbrev pub compactLeft : Bytes → Bytes → Left
 compactLeft block store = onBlock block store [] (λ st. compactResult st store)

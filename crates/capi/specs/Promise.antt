@@ -18,11 +18,11 @@ use Rattle.messages.specs.declared.MessageRead.{MessageRead}
 use Rattle.messages.specs.Read.{readOf}
 use Rattle.calls.specs.Calls.{setUp}
 use Rattle.block.specs.Block.{stateBytes, stateIn}
-use Rattle.capi.specs.Left.{Left, isBlock, ownAddLeft, ownRemoveLeft, listLeft, pageLeft, moreLeft, lookupLeft, keyAnswer, keyWritten}
+use Rattle.capi.specs.Left.{Left, isBlock, ownAddLeft, ownRemoveLeft, listLeft, pageLeft, moreLeft, mergeLeft, lookupLeft, keyAnswer, keyWritten}
 
 -- the version of the interface: 100 times its major number and its minor number
 abbrev pub interfaceVersion : ℕ
-interfaceVersion = 400
+interfaceVersion = 401
 
 -- set-up: a refused one leaves the block of the state that is zero throughout
 pub record SetsUp (actor : ℕ) (name before after : Bytes) (r : ℕ) : Type 0 where
@@ -84,6 +84,12 @@ abbrev pub PagesLabels : Loan Bytes → Loan Bytes → Loan Bytes → Loan Bytes
 PagesLabels state store start out written labels more r =
     Pages (pageLeft (before state) (before store) (before start) (before out)) (moreLeft (before state) (before store) (before start) (before out))
     (after out) (after written) (after labels) (after more) r
+
+-- a merged read, on what is lent to it: a listing
+abbrev pub MergesLabels : Loan Bytes → Loan Bytes → Loan Bytes → Loan Bytes → Loan Bytes → Loan ℕ → Loan ℕ → ℕ → Type 0
+MergesLabels first store second store′ out written labels r =
+    Lists (mergeLeft (before first) (before store) (before second) (before store′) (before out))
+    (after out) (after written) (after labels) r
 
 -- a lookup: the answer's number, the yes, and the very stretch of the lent store
 pub record LooksUp (block : Bytes) (store : RefT Bytes) (label : Bytes) (found : RefT Bytes) (listed : Bool) (r : ℕ) : Type 0 where

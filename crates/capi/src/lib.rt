@@ -2,10 +2,10 @@
 ghost use mathlib.Core.Path.{_≡_};
 ghost use Rattle.wire.specs.Loans.{before, after};
 ghost use Rattle.capi.specs.Left.{takeInLeft, compactLeft};
-ghost use Rattle.capi.specs.Promise.{interfaceVersion, SetsUp, OwnAdds, OwnRemoves, Changes, ListsLabels, PagesLabels, LooksUp, WritesKeyOf, ReadsKeyIn, ReadsMessageIn};
+ghost use Rattle.capi.specs.Promise.{interfaceVersion, SetsUp, OwnAdds, OwnRemoves, Changes, ListsLabels, PagesLabels, MergesLabels, LooksUp, WritesKeyOf, ReadsKeyIn, ReadsMessageIn};
 
 // The version of this interface: 100 times its major number and its minor number.
-const VERSION: u32 = 400;
+const VERSION: u32 = 401;
 
 // Tells the version of the interface.
 #[no_mangle]
@@ -141,6 +141,35 @@ pub extern "C" fn ptl_page(
     *labels = page.labels;
     *more = page.more;
     let answer = page.answer;
+    dots::number_of(answer)
+}
+
+// Lists the labels of two controllers as one.
+#[no_mangle]
+pub extern "C" fn ptl_merge<'a>(
+    first: &[u8],
+    first_store: &'a [u8],
+    second: &[u8],
+    second_store: &'a [u8],
+    out: &mut [u8],
+    written: &mut usize,
+    labels: &mut usize,
+) -> u8
+    ensures { λ r. ⌜ MergesLabels first «first_store» second «second_store» out written labels r ⌝ }
+{
+    *written = 0;
+    *labels = 0;
+    if first.len() != block::STATE_SIZE {
+        return 1;
+    }
+    if second.len() != block::STATE_SIZE {
+        return 1;
+    }
+    let state = block::unpack(first);
+    let done = reads::merge(state, first_store, block::unpack(second), second_store, out);
+    *written = done.written;
+    *labels = done.labels;
+    let answer = done.answer;
     dots::number_of(answer)
 }
 

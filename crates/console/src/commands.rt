@@ -32,6 +32,29 @@ pub fn list(state: &[u8], store: &[u8], out: &mut [u8]) {
     print::output(labels as u64, out, written);
 }
 
+// One listing of two controllers.
+pub fn merge<'a>(
+    first: &[u8],
+    first_store: &'a [u8],
+    second: &[u8],
+    second_store: &'a [u8],
+    out: &mut [u8],
+) {
+    let mut written = usize::MAX;
+    let mut labels = usize::MAX;
+    let answer = capi::ptl_merge(
+        first,
+        first_store,
+        second,
+        second_store,
+        out,
+        &mut written,
+        &mut labels,
+    );
+    print::number(answer as u64);
+    print::output(labels as u64, out, written);
+}
+
 // Whether more follow a page; a refused one says neither.
 fn print_more(answer: u8, more: bool) {
     if more {

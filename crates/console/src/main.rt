@@ -43,6 +43,27 @@ fn look(line: Line, state: &[u8], store: &[u8], args: &[u8], out: &mut [u8]) {
     }
 }
 
+// Carries out a merged read of two controllers.
+fn merge(
+    line: Line,
+    states: &States,
+    stores: &Stores,
+    lengths: &[usize; CONTROLLERS],
+    out: &mut [u8],
+) {
+    let a = line.first % CONTROLLERS;
+    let b = line.second % CONTROLLERS;
+    let lent = parts::front_mut(out, line.last);
+    parts::fill(lent, 0, OUT_FILL);
+    commands::merge(
+        &states[a],
+        parts::front(&stores[a], lengths[a]),
+        &states[b],
+        parts::front(&stores[b], lengths[b]),
+        lent,
+    );
+}
+
 // Carries out a command that leaves the store's length.
 fn run(line: Line, state: &mut [u8; STATE_SIZE], store: &mut [u8], args: &[u8], out: &mut [u8]) {
     let command = line.command;
@@ -102,6 +123,11 @@ fn answer(
         return;
     }
     print::text(parts::before(parse::body(text), b' '));
+    if line.command == parse::MERGE {
+        merge(line, states, stores, lengths, out);
+        print::text(b"\n");
+        return;
+    }
     lengths[k] = run_on(
         line,
         &mut states[k],

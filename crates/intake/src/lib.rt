@@ -1,11 +1,7 @@
 // Taking a message in: one that another controller of the set wrote, or the same.
 ghost use mathlib.Core.Path.{_≡_};
-ghost use mathlib.Core.Bool.{not};
 ghost use mathlib.Core.List.{[]};
-ghost use lib.Dec.{isEq};
-ghost use Prim.Native.Nat.{_≤_};
-ghost use lib.ListN.{length, take};
-ghost use Rattle.wire.specs.Bytes.{compareBytes};
+ghost use lib.ListN.{length};
 ghost use Rattle.wire.specs.Loans.{before, after};
 ghost use Rattle.dots.specs.Answer.{firstOf};
 ghost use Rattle.messages.specs.Read.{readOf};
@@ -16,15 +12,6 @@ ghost use Rattle.dots.specs.Wire.{dotsOf};
 ghost use Rattle.judging.specs.Judging.{LowPart};
 ghost use Rattle.steps.specs.Tests.{Told, MayApply, MayRemove, removedState, doneWith};
 ghost use Rattle.intake.specs.Work.{takenOf, takenAnswer, TakeAnswers, MayJudge, TookAdd};
-
-// Refusal 7: whether a message's name is another than the first len bytes.
-fn other_set(name: &[u8], len: usize, given: &[u8]) -> bool
-    requires { ⌜ len ≤ length (now name) ⌝ }
-    ensures { λ r. ⌜ r ≡ not (isEq (compareBytes (before given) (take len (before name)))) ⌝ }
-{
-    let starts = search::starts_with(given, &name[..len]);
-    !(starts & (given.len() == len))
-}
 
 // The first of the refusals 7 and 8 whose test holds, else what comes after them.
 fn taken_answer(other: bool, ahead: bool, late: dots::Answer) -> dots::Answer
@@ -55,7 +42,7 @@ fn taken_late<'a>(
     let ahead = steps::own_ahead(own, base, context);
     let given = wire::part(message, read.name.at, read.name.len);
     let name = head.name.bytes;
-    let other = other_set(&name, head.name.len, given);
+    let other = steps::other_set(&name, head.name.len, given);
     if read.kind == b'a' {
         let label = wire::part(message, read.label.at, read.label.len);
         let crowded = size < head.used + (head.name.len + label.len() + keys::LABEL_KEY_FIXED);

@@ -22,6 +22,8 @@ pub const LIST: u8 = b'l';
 
 pub const PAGE: u8 = b'p';
 
+pub const MERGE: u8 = b'g';
+
 pub const LOOKUP: u8 = b'u';
 
 pub const KEY: u8 = b'k';
@@ -83,6 +85,14 @@ fn blank(why: u8) -> Line {
 
 // ---- fields
 
+// Reads a field of a kind; c is a controller.
+fn read_kind(kind: u8, field: &[u8], args: &mut [u8; ARGUMENTS_MAX], end: usize) -> Read {
+    if kind == b'c' {
+        return named(field);
+    }
+    fields::read_field(kind, field, args, end)
+}
+
 // Reads field i of a command, of this kind. Field 0 is the command's word.
 fn read_field(line: Line, i: usize, kind: u8, text: &[u8], args: &mut [u8; ARGUMENTS_MAX]) -> Line {
     let mut next = line;
@@ -95,7 +105,7 @@ fn read_field(line: Line, i: usize, kind: u8, text: &[u8], args: &mut [u8; ARGUM
         next.why = why::MISSING;
         return next;
     }
-    let read = fields::read_field(kind, field, args, line.end);
+    let read = read_kind(kind, field, args, line.end);
     next.why = read.why;
     next.last = read.value;
     if i == 1 {
@@ -149,7 +159,7 @@ fn place_of(table: &[u8], text: &[u8]) -> usize {
 // Reads a command. The table has the words of each, its letter, and the kinds of the fields after its first word.
 fn read_command(text: &[u8], args: &mut [u8; ARGUMENTS_MAX]) -> Line {
     let table =
-        b"setup:sbT;add:aTDo;remove:rDo;take:tH;compact:c;list:lo;page:pTo;lookup:uT;key:kkTTBNo;readkey:yH;readmessage:mH;state:e;store:o;buffer:blb;poke used:UwN;poke actor:AwB;poke name:NwM;poke namelen:LwN;poke base:BwrN;poke window:WwrN;poke dot:DwsBN;poke count:CwN;poke byte:YwnB;poke:?p";
+        b"setup:sbT;add:aTDo;remove:rDo;take:tH;compact:c;list:lo;page:pTo;merge:gcco;lookup:uT;key:kkTTBNo;readkey:yH;readmessage:mH;state:e;store:o;buffer:blb;poke used:UwN;poke actor:AwB;poke name:NwM;poke namelen:LwN;poke base:BwrN;poke window:WwrN;poke dot:DwsBN;poke count:CwN;poke byte:YwnB;poke:?p";
     if text.len() == 0 {
         return blank(why::NO_WORD);
     }
@@ -187,6 +197,17 @@ fn controller(text: &[u8]) -> Read {
     }
     let number = fields::number(parts::after(parts::before(text, b' '), b'@'));
     fields::within(number, 0, CONTROLLER_LAST, why::NO_CONTROLLER)
+}
+
+// The controller that a field names.
+fn named(field: &[u8]) -> Read {
+    if wire::byte_at(field, 0) != b'@' {
+        return Read {
+            why: why::NO_CONTROLLER,
+            value: 0,
+        };
+    }
+    controller(field)
 }
 
 // The line without its controller.

@@ -191,7 +191,7 @@ some-put whole done l rest out out′ bytes labels w b c h s e =
 
 -- ---- lines put one after the other
 
-length-put : (s x : Bytes) (at : ℕ) → at + length x ≤ length s → length (putAt s at x) ≡ length s
+pub length-put : (s x : Bytes) (at : ℕ) → at + length x ≤ length s → length (putAt s at x) ≡ length s
 unfolding putAt
 length-put s x at h = rw (length-append, length-append, length-take, length-drop) (omega arith)
 
@@ -386,7 +386,7 @@ module _ (ls : List Line) (out : Bytes) where
 -- ---- a listing is no longer than its keys
 
 -- an entry more
-prepend-bytes : (e : Entry) (ls : List Line) → length (listingBytes (prepend e ls)) ≤ length (listingBytes ls) + (length (e .label) + lineFixed + dotSize)
+pub prepend-bytes : (e : Entry) (ls : List Line) → length (listingBytes (prepend e ls)) ≤ length (listingBytes ls) + (length (e .label) + lineFixed + dotSize)
 unfolding prepend listingBytes
 prepend-bytes e [] =
     let all = length-lines (line (e .label) (e .dot ∷ [])) [] in

@@ -49,7 +49,7 @@ module _ (n : ℕ) (name : Name) (named : length name ≡ n) where
   length-none = refl
 
   -- what follows the prefix of the first key: its label, a 0, and more
-  past-prefix : (e : Entry) (es : List Entry) → (t : Bytes) × (drop (n + prefixFixed) (storeBytes name (e ∷ es)) ≡ e .label ++ (0 ∷ t))
+  pub past-prefix : (e : Entry) (es : List Entry) → (t : Bytes) × (drop (n + prefixFixed) (storeBytes name (e ∷ es)) ≡ e .label ++ (0 ∷ t))
   unfolding storeBytes endToEnd suffix
   past-prefix e es =
       let d : Dot = e .dot in
@@ -136,7 +136,7 @@ keep-last p xs x = rw (keep-append p xs (x ∷ []), length-append) (go (p x))
     go true = refl
     go false = refl
 
-up-rest : (xs ys : List Entry) → Ascending compareEntries (xs ++ ys) → Ascending compareEntries ys
+pub up-rest : (xs ys : List Entry) → Ascending compareEntries (xs ++ ys) → Ascending compareEntries ys
 up-rest [] ys up = up
 up-rest (x ∷ xs) ys up = up-rest xs ys (up .1)
 

@@ -17,7 +17,7 @@ ghost use Rattle.listing.specs.Listing.{isLive, keyLines, lineFixed, lin
 ghost use Rattle.listing.specs.Lines.{CanListKey, KeyAt, CanAddKey, withKey, CanGoOn, goesOn, FirstLine, listedSize, dotsIn, listedDots, lineHead, CanPutAllDots, CanPutDots, lineOf, CanPutLine, linesOfLine, CanPutListed, ListedPut};
 
 // Bytes of a line beside its label and its dots: the label's length and the number of dots.
-const LINE_FIXED: usize = 3;
+pub const LINE_FIXED: usize = 3;
 
 // ---- keys
 
@@ -162,7 +162,7 @@ fn count_bytes(n: usize) -> [u8; 2]
 }
 
 // Puts what stands before the dots of a line at the front of out. Returns its length.
-fn put_head(out: &mut [u8], label: &[u8], count: usize) -> usize
+pub fn put_head(out: &mut [u8], label: &[u8], count: usize) -> usize
     requires { ⌜ (length (now label) ≤ labelMost) × (count < 256 ^ 2) × (length (now label) + lineFixed ≤ length (now out)) ⌝ }
     ensures { λ r. ⌜ (r ≡ length (before label) + lineFixed) × (after out ≡ putAt (before out) 0 (lineHead (before label) count)) ⌝ }
 {

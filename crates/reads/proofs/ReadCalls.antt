@@ -23,7 +23,7 @@ use Rattle.dots.specs.Dots.{compareDots, ascendingDots, tombstoneMost}
 use Rattle.dots.specs.Entries.{Entry, Line}
 use Rattle.keys.specs.Entry.{entryOk}
 use Rattle.store.specs.Cut.{storeBytes, keysOf, entriesIn}
-use Rattle.store.specs.Valid.{keysFit}
+use Rattle.store.specs.Valid.{storeMost, keysFit}
 use Rattle.store.specs.Place.{lengthWhile, lowerThan, placeIn, labelStart, stretchStart, stretchEnd}
 use Rattle.listing.specs.declared.LinesPut.{LinesPut}
 use Rattle.listing.specs.Listing.{lineSize, listingBytes, StoredKeys, PutsLines, wantedLines, PutsWanted}
@@ -34,6 +34,7 @@ use Rattle.store.proofs.RoundTrip.{UsedEntries, keys-fit, entries-written}
 use Rattle.store.proofs.Stretches.{stretch-start, stretch-end, stretch-bytes}
 use Rattle.replica.specs.Machine.{listing, found}
 use Rattle.calls.specs.declared.State.{State}
+use Rattle.calls.specs.declared.Listed.{Listed}
 use Rattle.calls.specs.State.{clockModel, nameOf, tombstoneDots, usedPart, entries, view, Sized}
 use Rattle.calls.specs.Damage.{stateNameOk, tombstoneOk, damaged}
 use Rattle.wire.proofs.Fields.{put-front}
@@ -42,7 +43,7 @@ use Rattle.calls.specs.Refusals.{badLabel, outputShort}
 use Rattle.steps.specs.Tests.{earlyRefusals}
 use Rattle.calls.specs.Calls.{refused, linesPut, listResult, Looked, notLooked, lowerLabels, sameLabel, bytesOf, lookupRefusals, lookupDone, lookupResult}
 use Rattle.calls.specs.Promise.{Lists, LooksUp}
-use Rattle.reads.specs.Reads.{Readable, linesIn, putAnswer}
+use Rattle.reads.specs.Reads.{Readable, linesIn, putAnswer, listedOf}
 use Rattle.calls.proofs.Clauses.{undamaged, used-fits, store-fits, entries-of}
 
 -- ---- what they count on
@@ -51,8 +52,11 @@ pub name-most : (st : State) (store : Bytes) → damaged st store ≡ false → 
 unfolding stateNameOk
 name-most st store f = let n = undamaged st store f .name in leb-true (st .name .len) nameMost (search both)
 
+pub name-fits : (st : State) (store : Bytes) → Sized st → damaged st store ≡ false → st .name .len ≤ length (st .name .bytes)
+name-fits st store sized f = let size = sized .name-size in omega (arith, name-most st store f)
+
 pub name-size : (st : State) (store : Bytes) → Sized st → damaged st store ≡ false → length (nameOf st) ≡ st .name .len
-name-size st store sized f = let size = sized .name-size in length-take-le (st .name .len) (st .name .bytes) (omega (arith, name-most st store f))
+name-size st store sized f = length-take-le (st .name .len) (st .name .bytes) (name-fits st store sized f)
 
 pub tombstone-most : (st : State) (store : Bytes) → damaged st store ≡ false → st .tombstone .count ≤ tombstoneMost
 unfolding tombstoneOk
@@ -63,24 +67,25 @@ unfolding tombstoneOk
 tombstone-ascends st store f = let t = undamaged st store f .tombstone in search both
 
 -- the used part of an undamaged store
-pub stored-keys : (st : State) (store : Bytes) → Sized st → damaged st store ≡ false → StoredKeys (st .name .len) (usedPart st store)
-stored-keys st store sized f =
-    let n : st .name .len ≡ length (nameOf st) = sym (name-size st store sized f) in
+abbrev pub keys-named : (st : State) (store : Bytes) → damaged st store ≡ false → (n : ℕ) → length (nameOf st) ≡ n → StoredKeys n (usedPart st store)
+keys-named st store f n e =
     let u = entries-of st store (undamaged st store f) in
-    rw n (record { name = nameOf st; named = refl; written = u .written; valid = u .valid; ascend = u .ascend })
+    record { name = nameOf st; named = e; written = rw (← e) (u .written); valid = rw (← e) (u .valid); ascend = rw (← e) (u .ascend) }
+
+pub stored-keys : (st : State) (store : Bytes) → Sized st → damaged st store ≡ false → StoredKeys (st .name .len) (usedPart st store)
+stored-keys st store sized f = keys-named st store f (st .name .len) (name-size st store sized f)
+
+pub used-short : (st : State) (store : Bytes) → damaged st store ≡ false → length (usedPart st store) ≤ storeMost
+used-short st store f = let u = undamaged st store f in omega (arith, length-take-le (st .used) store (used-fits st store u), used-fits st store u, store-fits st store u)
 
 pub readable : (st : State) (store keys : Bytes) → Sized st → damaged st store ≡ false → StoredKeys (st .name .len) keys → length keys ≤ length (usedPart st store)
     → Readable (st .name .len) keys (st .tombstone .bytes) (st .tombstone .count)
-readable st store keys sized f stored within =
-    let u = undamaged st store f in
-    let most = store-fits st store u in
-    let used = used-fits st store u in
-    record {
-      short-name = name-most st store f;
-      keys-short = omega (arith, length-take-le (st .used) store used);
-      stored = stored;
-      tomb = record { size = sized .tombstone-size; few = tombstone-most st store f; ascends = tombstone-ascends st store f };
-    }
+readable st store keys sized f stored within = record {
+  short-name = name-most st store f;
+  keys-short = omega (arith, used-short st store f);
+  stored = stored;
+  tomb = record { size = sized .tombstone-size; few = tombstone-most st store f; ascends = tombstone-ascends st store f };
+}
 
 -- ---- listing
 
@@ -89,9 +94,8 @@ unfolding listResult
 damaged-listing st store out d = rw d (record { answered = refl; written-is = refl; labels-are = refl; out-is = refl })
 
 -- all lines are put, or none and the answer is 13
-lists-or-short : (st : State) (store out out′ : Bytes) (ls : List Line) (put : LinesPut) (short : Bool) → outputShort out (listingBytes ls) ≡ short → PutsWanted true ls out out′ put
-    → Lists (cond (eqb (numberOf (cond short OutputShort Done)) 0) (linesPut st store out ls) (refused st store out (cond short OutputShort Done))) out′
-    (record { answer = putAnswer put; written = put .bytes; labels = put .labels })
+pub lists-or-short : (st : State) (store out out′ : Bytes) (ls : List Line) (put : LinesPut) (short : Bool) → outputShort out (listingBytes ls) ≡ short → PutsWanted true ls out out′ put
+    → Lists (cond (eqb (numberOf (cond short OutputShort Done)) 0) (linesPut st store out ls) (refused st store out (cond short OutputShort Done))) out′ (listedOf put)
 unfolding putAnswer wantedLines listingBytes
 lists-or-short st store out out′ ls put true e p =
     let w : PutsLines ls [] out out′ put = rw e at p in
@@ -118,11 +122,11 @@ lists-or-short st store out out′ ls put false e p =
       out-is = w .out-is ∙ put-front out (listingBytes ls);
     }
 
-pub undamaged-listing : (st : State) (store out out′ : Bytes) (put : LinesPut) (answer : Answer) → Sized st → damaged st store ≡ false → answer ≡ putAnswer put
+pub undamaged-listing : (st : State) (store out out′ : Bytes) (put : LinesPut) (r : Listed) → Sized st → damaged st store ≡ false → r ≡ listedOf put
     → PutsWanted true (linesIn (st .name .len) (usedPart st store) (st .tombstone .bytes) (st .tombstone .count)) out out′ put
-    → Lists (listResult st store out) out′ (record { answer = answer; written = put .bytes; labels = put .labels })
+    → Lists (listResult st store out) out′ r
 unfolding listResult listing view
-undamaged-listing st store out out′ put answer sized f a p =
+undamaged-listing st store out out′ put r sized f a p =
     let ls : List Line = linesIn (st .name .len) (usedPart st store) (st .tombstone .bytes) (st .tombstone .count) in
     rw (f, a, name-size st store sized f) (lists-or-short st store out out′ ls put (outputShort out (listingBytes ls)) refl p)
 

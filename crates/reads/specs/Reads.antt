@@ -1,15 +1,16 @@
 -- What the calls that only read count on, and what a listing gives, over the parts of a state. n is the length of the set's name.
 use Prim.Native.Nat.{ℕ, _*_, _≤_}
 use denote.Ref.{RefT}
-use mathlib.Core.Bool.{Bool, true, false, not, cond, _&&_}
-use mathlib.Core.List.{List, _++_}
+use mathlib.Core.Bool.{Bool, true, false, not, cond, _&&_, _||_}
+use mathlib.Core.List.{List, [], _∷_, _++_}
 use mathlib.Core.Path.{_≡_}
 use lib.Dec.{eqb, ltb}
 use lib.ListN.{length, take}
 use Rattle.wire.specs.Lists.{any, member}
 use Rattle.wire.specs.Bytes.{Bytes, IsPart}
 use Rattle.dots.specs.declared.Answer.{Answer}
-use Rattle.dots.specs.declared.Answer.the-variants.{Done, OutputShort}
+use Rattle.dots.specs.declared.Answer.the-variants.{Done, Damaged, OtherSet, OutputShort}
+use Rattle.dots.specs.Answer.{Refusals}
 use Rattle.dots.specs.declared.Dot.{Dot}
 use Rattle.dots.specs.Names.{Name, Label, nameMost, nameOk, labelOk}
 use Rattle.dots.specs.Dots.{compareDots, ascendingDots, tombstoneMost}
@@ -21,9 +22,14 @@ use Rattle.store.specs.Valid.{storeMost, keysFit}
 use Rattle.store.specs.Place.{stretchStart, stretchEnd, Passed, LabelPassed}
 use Rattle.listing.specs.declared.LinesPut.{LinesPut}
 use Rattle.listing.specs.Listing.{keyLines, StoredKeys}
+use Rattle.merge.specs.declared.Side.{Side}
+use Rattle.calls.specs.declared.State.{State}
+use Rattle.calls.specs.declared.Listed.{Listed}
 use Rattle.calls.specs.declared.Paged.{Paged}
 use Rattle.calls.specs.declared.Tombstone.{Tombstone}
-use Rattle.calls.specs.Refusals.{badStart}
+use Rattle.calls.specs.State.{nameOf}
+use Rattle.calls.specs.Damage.{damaged}
+use Rattle.calls.specs.Refusals.{badStart, otherSet}
 use Rattle.steps.specs.Tests.{Tombstoned}
 
 -- ---- lines put out
@@ -43,7 +49,10 @@ linesIn n keys tombstone count = keyLines n keys (take (count * dotSize) tombsto
 unfoldable pub putAnswer : LinesPut → Answer
 putAnswer put = cond (put .more && eqb (put .labels) 0) OutputShort Done
 
--- what a page gives of the lines put out
+-- what a listing and a page give of the lines put out
+abbrev pub listedOf : LinesPut → Listed
+listedOf put = record { answer = putAnswer put; written = put .bytes; labels = put .labels }
+
 unfoldable pub pagedOf : LinesPut → Paged
 pagedOf put = record { answer = putAnswer put; written = put .bytes; labels = put .labels; more = put .more && ltb 0 (put .labels) }
 
@@ -64,6 +73,16 @@ pub record Startable (store : Bytes) (used : ℕ) (name : Bytes) (len : ℕ) (st
 -- r is where a page starts in the used part of a store
 abbrev pub IsStart : Bytes → ℕ → Bytes → ℕ → Label → ℕ → Type 0
 IsStart store used name len start r = (r ≡ pageStart (take len name) start (take used store)) × (r ≤ used)
+
+-- ---- merged read
+
+-- its refusals before the walk: "Either state damaged: 1, then different sets: 7"
+abbrev pub sidesRefusals : State → Bytes → State → Bytes → Refusals
+sidesRefusals st store st′ store′ = (damaged st store || damaged st′ store′, Damaged) ∷ (otherSet st store (nameOf st′), OtherSet) ∷ []
+
+-- tombstone and clock of a state
+abbrev pub sideOf : State → Side
+sideOf st = record { tombstone = st .tombstone .bytes; count = st .tombstone .count; words = st .clock .words }
 
 -- ---- lookup
 

@@ -1,4 +1,4 @@
-// The calls that only read: listing, page and lookup.
+// The calls that only read: listing, page, merged read and lookup.
 ghost use mathlib.Core.Path.{_≡_};
 ghost use mathlib.Core.Bool.{false};
 ghost use Rattle.wire.specs.Loans.{before, after};
@@ -6,9 +6,10 @@ ghost use Rattle.dots.specs.Answer.{firstOf, numberOf};
 ghost use Rattle.listing.specs.Listing.{PutsWanted};
 ghost use Rattle.steps.specs.Tests.{earlyRefusals};
 ghost use Rattle.calls.specs.Refusals.{badLabel, badStart};
-ghost use Rattle.calls.specs.Calls.{listResult};
+ghost use Rattle.calls.specs.Damage.{damaged};
+ghost use Rattle.calls.specs.Calls.{listResult, mergeResult};
 ghost use Rattle.calls.specs.Promise.{Lists, PagesAfter, LooksUp};
-ghost use Rattle.reads.specs.Reads.{Readable, linesIn, putAnswer, Startable, IsStart, pagedOf, Searchable, IsStretch, LiveTestable, anyLive};
+ghost use Rattle.reads.specs.Reads.{Readable, linesIn, putAnswer, listedOf, sidesRefusals, sideOf, Startable, IsStart, pagedOf, Searchable, IsStretch, LiveTestable, anyLive};
 
 // ---- lines put out
 
@@ -40,14 +41,32 @@ fn put_answer(put: listing::LinesPut) -> dots::Answer
     dots::Answer::Done
 }
 
+// What a listing gives of the lines put out.
+fn listed(put: listing::LinesPut) -> calls::Listed
+    ensures { λ r. ⌜ r ≡ listedOf put ⌝ }
+{
+    calls::Listed {
+        answer: put_answer(put),
+        written: put.bytes,
+        labels: put.labels,
+    }
+}
+
 // ---- listing
+
+// Refusal 1.
+fn is_damaged(state: calls::State, store: &[u8]) -> bool
+    ensures { λ r. ⌜ r ≡ damaged state (before store) ⌝ }
+{
+    let head = judging::head_of(state);
+    judging::damaged(head, &state.clock.words, &state.tombstone.bytes, store)
+}
 
 // Lists the labels.
 pub fn list(state: calls::State, store: &[u8], out: &mut [u8]) -> calls::Listed
     ensures { λ r. ⌜ Lists (listResult state (before store) (before out)) (after out) r ⌝ }
 {
-    let head = judging::head_of(state);
-    if judging::damaged(head, &state.clock.words, &state.tombstone.bytes, store) {
+    if is_damaged(state, store) {
         return calls::Listed {
             answer: dots::Answer::Damaged,
             written: 0,
@@ -58,12 +77,7 @@ pub fn list(state: calls::State, store: &[u8], out: &mut [u8]) -> calls::Listed
     let n = state.name.len;
     let used = state.used;
     let count = state.tombstone.count;
-    let put = put_used(n, &store[..used], &tombstone, count, true, out);
-    calls::Listed {
-        answer: put_answer(put),
-        written: put.bytes,
-        labels: put.labels,
-    }
+    listed(put_used(n, &store[..used], &tombstone, count, true, out))
 }
 
 // ---- page
@@ -131,6 +145,74 @@ pub fn page(state: calls::State, store: &[u8], start: &[u8], out: &mut [u8]) -> 
     let tombstone = state.tombstone.bytes;
     let count = state.tombstone.count;
     paged(put_used(n, &store[from..used], &tombstone, count, false, out))
+}
+
+// ---- merged read
+
+// The first of the refusals 1 and 7 that holds.
+fn merge_refusal<'a>(
+    first: calls::State,
+    a: &'a [u8],
+    second: calls::State,
+    b: &'a [u8],
+) -> dots::Answer
+    ensures { λ r. ⌜ r ≡ firstOf (sidesRefusals first (before a) second (before b)) ⌝ }
+{
+    let damage = is_damaged(first, a);
+    if damage | is_damaged(second, b) {
+        return dots::Answer::Damaged;
+    }
+    let name = first.name.bytes;
+    let given = second.name.bytes;
+    let size = second.name.len;
+    if steps::other_set(&name, first.name.len, &given[..size]) {
+        return dots::Answer::OtherSet;
+    }
+    dots::Answer::Done
+}
+
+// Tombstone and clock of a state.
+fn side_of(state: calls::State) -> merge::Side
+    ensures { λ r. ⌜ r ≡ sideOf state ⌝ }
+{
+    let tombstone = state.tombstone.bytes;
+    let words = state.clock.words;
+    merge::Side {
+        tombstone: tombstone,
+        count: state.tombstone.count,
+        words: words,
+    }
+}
+
+// Lists the labels of two controllers as one.
+pub fn merge<'a>(
+    first: calls::State,
+    a: &'a [u8],
+    second: calls::State,
+    b: &'a [u8],
+    out: &mut [u8],
+) -> calls::Listed
+    ensures { λ r. ⌜ Lists (mergeResult first (before a) second (before b) (before out)) (after out) r ⌝ }
+{
+    let refusal = merge_refusal(first, a, second, b);
+    if dots::number_of(refusal) != 0 {
+        return calls::Listed {
+            answer: refusal,
+            written: 0,
+            labels: 0,
+        };
+    }
+    let n = first.name.len;
+    let used = first.used;
+    let size = second.used;
+    listed(merge::put_merged(
+        n,
+        &a[..used],
+        side_of(first),
+        &b[..size],
+        side_of(second),
+        out,
+    ))
 }
 
 // ---- lookup

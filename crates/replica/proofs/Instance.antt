@@ -8,8 +8,9 @@ use Rattle.clock.specs.Row.{windowWidth}
 use Rattle.replica.specs.Clock.{ClockModel}
 use Rattle.replica.specs.Machine.{Call, State, Controller, effect, exchanged, allowed}
 use Rattle.replica.specs.Demand3.{FollowsTheRule, ReplicasAgree}
+use Rattle.replica.specs.Read.{TwoRacks}
 use Rattle.replica.specs.RowClock.{rowClock}
-use Rattle.replica.proofs.RowClock.{controllers-follow, controllers-agree}
+use Rattle.replica.proofs.RowClock.{controllers-follow, controllers-agree, controllers-merge}
 
 abbrev clock : ClockModel
 clock = rowClock windowWidth
@@ -49,3 +50,6 @@ machine-follows-the-rule = controllers-follow machine
 
 pub machines-agree : ReplicasAgree clock machine
 machines-agree = controllers-agree machine
+
+pub machines-merge : TwoRacks clock machine
+machines-merge = controllers-merge machine

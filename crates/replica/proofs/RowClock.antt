@@ -17,8 +17,9 @@ use Rattle.clock.proofs.Clocks.{Formed, row-empty, rows-eq, zero-formed, zero-u
 use Rattle.replica.specs.Clock.{ClockModel, ClockLaws}
 use Rattle.replica.specs.Machine.{Controller}
 use Rattle.replica.specs.Demand3.{FollowsTheRule, ReplicasAgree}
+use Rattle.replica.specs.Read.{TwoRacks}
 use Rattle.replica.specs.RowClock.{rowClock}
-use Rattle.replica.proofs.Theorems.{follows-the-rule, replicas-agree}
+use Rattle.replica.proofs.Theorems.{follows-the-rule, replicas-agree, two-racks}
 
 unfoldable pub rowClockLaws : (W : ℕ) → 1 ≤ W → ClockLaws (rowClock W)
 unfolding sees joinAll
@@ -51,3 +52,6 @@ controllers-follow = follows-the-rule (rowClock windowWidth) (rowClockLaws windo
 
 pub controllers-agree : (K : Controller (rowClock windowWidth)) → ReplicasAgree (rowClock windowWidth) K
 controllers-agree = replicas-agree (rowClock windowWidth) (rowClockLaws windowWidth (omega arith))
+
+pub controllers-merge : (K : Controller (rowClock windowWidth)) → TwoRacks (rowClock windowWidth) K
+controllers-merge = two-racks (rowClock windowWidth) (rowClockLaws windowWidth (omega arith))

@@ -1,4 +1,4 @@
--- Demand 3, proved: `follows-the-rule` and `replicas-agree`.
+-- Demand 3, proved: `follows-the-rule`, `replicas-agree` and `two-racks`.
 use mathlib.Core.Path.{_≡_, refl, sym, _∙_, ap, subst}
 use mathlib.Core.Logic.{_↔_, _⊎_, inl, inr, ⊎-elim, ⊎-map}
 use mathlib.Core.Bool.{Bool, true, false, cond}
@@ -21,8 +21,10 @@ use Rattle.replica.specs.Clock.{ClockModel, ClockLaws}
 use Rattle.replica.specs.Machine.{messagesOf, State, live, liveKeys, compacted, listing, found, effect, Controller}
 use Rattle.replica.specs.Rule.{History, noHistory, noted, historyFrom, pairs, removed, livePairs, ruleListing, OneLabelPerDot}
 use Rattle.replica.specs.Demand3.{accepts, run, events, traffic, Compacts, Life, endOf, accepted, trafficOf, FollowsTheRule, ReplicasAgree}
+use Rattle.replica.specs.Read.{readOf, TwoRacks}
 use Rattle.replica.proofs.Invariant.{Invariant, at-start, next-dot, call-keeps}
 use Rattle.replica.proofs.Listings.{fewer, is-listing, live-pairs-are, same-named, same-live}
+use Rattle.replica.proofs.Merges.{Represents, merged-represents}
 
 -- lookup says yes exactly if the listing has the label, in any state
 module _ (C : ClockModel) (s : State C) where
@@ -139,7 +141,7 @@ module _ (C : ClockModel) (L : ClockLaws C) (K : Controller C) where
       let f = run-messages (begins c) (c .calls) m in
       (λ k. ⊎-elim (λ t. t) (λ n. absurd (List·Memᴰ·not-nil n)) (f .0 k), λ t. f .1 (inl t))
 
-  -- ---- the two claims
+  -- ---- the claims
 
   pub follows-the-rule : FollowsTheRule C K
   unfolding listing ruleListing compacted
@@ -178,3 +180,14 @@ module _ (C : ClockModel) (L : ClockLaws C) (K : Controller C) where
 
       keys : OneLabelPerDot (pairs (accepted C K c ++ accepted C K d)) → liveKeys C (K .view (endOf C K c)) ≡ liveKeys C (K .view (endOf C K d))
       keys single = equal-live-keys C L inv inv′ alike (fewer (λ m. Memᴰ·append-left (accepted C K d)) single) (fewer (λ m. Memᴰ·append-right (accepted C K c)) single)
+
+  -- a controller's read stands for what it accepted
+  represents : (c : Life C K) → OneLabelPerDot (pairs (accepted C K c)) → Represents C (accepted C K c) (readOf C (K .view (endOf C K c)))
+  represents c single = let inv = life-keeps c in record { clock-is = λ d. (inv .seen-named d, inv .named-seen d); listed-is = live-keys C L inv single }
+
+  pub two-racks : TwoRacks C K
+  unfolding ruleListing
+  two-racks c d single =
+      let one = represents c (fewer (λ m. Memᴰ·append-left (accepted C K d)) single) in
+      let two = represents d (fewer (λ m. Memᴰ·append-right (accepted C K c)) single) in
+      ap linesOf (merged-represents C one two single)

@@ -1,4 +1,4 @@
--- Document 01's slips that would light the wrong bin (slip 4 is the clock's: `clock/specs`), and compactions, as runs of the machine.
+-- Document 01's slips that would light the wrong bin (slip 4 is the clock's: `clock/specs`), and compactions, as runs of the machine; merges of two.
 use Prim.Native.Nat.{ℕ}
 use mathlib.Core.List.{List, [], _∷_, _++_}
 use mathlib.Core.Path.{_≡_}
@@ -10,6 +10,7 @@ use Rattle.dots.specs.Message.{add, remove}
 use Rattle.clock.specs.Row.{windowWidth}
 use Rattle.replica.specs.Clock.{ClockModel}
 use Rattle.replica.specs.Machine.{Call, ownAdd, ownRemove, takeIn, compact, State, setUp, listing, effect}
+use Rattle.replica.specs.Read.{readOf, mergedLines}
 use Rattle.replica.specs.RowClock.{rowClock}
 
 abbrev clock : ClockModel
@@ -66,3 +67,25 @@ pub record CompactionCases : Type 0 where
   -- a key whose dot is not in the tombstone stays
   pub live-stays : shown 1 (ownAdd B7 [] ∷ ownAdd B8 [] ∷ ownRemove (dot 1 1 ∷ []) ∷ compact ∷ [])
       ≡ record { keys = entry B8 (dot 1 2) ∷ []; tombstone = []; listing = line B8 (dot 1 2 ∷ []) ∷ [] }
+
+-- ---- two racks: the first added B7 and B8; the second took in B7's add and its remove, in one case compacted, and has not seen B8's
+
+abbrev first : State clock
+first = run (setUp clock (actorOf 1)) (ownAdd B7 [] ∷ ownAdd B8 [] ∷ [])
+
+abbrev second : State clock
+second = run (setUp clock (actorOf 2)) (takeIn (add B7 (dot 1 1) []) ∷ takeIn (remove (dot 1 1 ∷ [])) ∷ [])
+
+abbrev dropped : State clock
+dropped = run second (compact ∷ [])
+
+abbrev merge : State clock → State clock → List Line
+merge s t = mergedLines clock (readOf clock s) (readOf clock t)
+
+pub record MergeCases : Type 0 where
+  -- what the second has removed is not listed, be its key still stored or dropped; what it has not seen is
+  pub removed : merge first second ≡ line B8 (dot 1 2 ∷ []) ∷ []
+  pub compacted : merge first dropped ≡ line B8 (dot 1 2 ∷ []) ∷ []
+  pub other-way : merge dropped first ≡ line B8 (dot 1 2 ∷ []) ∷ []
+  -- what both list is listed once
+  pub itself : merge first first ≡ line B7 (dot 1 1 ∷ []) ∷ line B8 (dot 1 2 ∷ []) ∷ []

@@ -1,11 +1,12 @@
 // The steps that calls share: the tests of refusals but for 1, and applying a context or an add.
 ghost use mathlib.Core.Path.{_≡_};
-ghost use mathlib.Core.Bool.{true, cond};
+ghost use mathlib.Core.Bool.{true, not, cond};
 ghost use mathlib.Core.List.{_∷_};
 ghost use Prim.Native.Nat.{_+_, _*_, _≤_};
-ghost use lib.Dec.{ltb};
-ghost use lib.ListN.{length};
+ghost use lib.Dec.{isEq, ltb};
+ghost use lib.ListN.{length, take};
 ghost use Rattle.wire.specs.Lists.{all, any, member};
+ghost use Rattle.wire.specs.Bytes.{compareBytes};
 ghost use Rattle.wire.specs.Loans.{before, after};
 ghost use Rattle.dots.specs.Answer.{firstOf};
 ghost use Rattle.dots.specs.Dots.{dotOf, dotOk, compareDots, ascendingDots, tombstoneMost};
@@ -27,6 +28,17 @@ pub struct Lent {
 pub struct Room {
     pub crowded: bool,
     pub short: bool,
+}
+
+// ---- refusal 7
+
+// Whether a name is another than the first len bytes.
+pub fn other_set(name: &[u8], len: usize, given: &[u8]) -> bool
+    requires { ⌜ len ≤ length (now name) ⌝ }
+    ensures { λ r. ⌜ r ≡ not (isEq (compareBytes (before given) (take len (before name)))) ⌝ }
+{
+    let starts = search::starts_with(given, &name[..len]);
+    !(starts & (given.len() == len))
 }
 
 // ---- refusals 6, 8, 9 and 11

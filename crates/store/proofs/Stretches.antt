@@ -2,7 +2,7 @@
 use mathlib.Core.Path.{_≡_, refl, sym, ap, _∙_}
 use mathlib.Core.Logic.{_⊎_, inl, inr}
 use mathlib.Core.Bool.{Bool, true, false, not, cond, _&&_, true≢false}
-use mathlib.Core.List.{List, [], _∷_, _++_, map, List·Memᴰ·head, List·Memᴰ·tail}
+use mathlib.Core.List.{List, [], _∷_, _++_, map, append-assoc, append-nil, List·Memᴰ·head, List·Memᴰ·tail}
 use Prim.Native.Nat.{ℕ, _+_, _-_, _≤_, Ordering, Ordering·lt, Ordering·eq, Ordering·gt, compare}
 use native.Mathlib.Omega.{arith}
 use lib.Dec.{leb, isEq}
@@ -14,7 +14,7 @@ use Rattle.wire.specs.Bytes.{Bytes, bigEndian, compareBytes, partAt, startsWith
 use Rattle.wire.proofs.Tests.{both, untrue, pass, holds}
 use Rattle.wire.proofs.Lists.{lt-is, tie-is, keep-member, keep-all, all-member, member-all, ascending-keep, irreflexive}
 use Rattle.wire.proofs.Orders.{bytesLawful, then-lt}
-use Rattle.wire.proofs.ByteOrder.{compare-common, compare-ended, starts-append, starts-itself}
+use Rattle.wire.proofs.ByteOrder.{compare-common, compare-ended, starts-common}
 use Rattle.dots.specs.declared.Dot.{Dot}
 use Rattle.dots.specs.Names.{Name, Label, labelMost, labelOk}
 use Rattle.dots.specs.Dots.{compareDots}
@@ -30,7 +30,7 @@ use Rattle.store.proofs.RoundTrip.{keys-written, store-append}
 -- ---- a test that fails for all after one for which it fails
 
 module _ {A : Type 0} where
-  abbrev FrontOnly : (A → Bool) → List A → Type 0
+  abbrev pub FrontOnly : (A → Bool) → List A → Type 0
   FrontOnly p [] = Unit {0}
   FrontOnly p (x ∷ xs) = (p x ≡ false → (y : A) → y ∈ xs → p y ≡ false) × FrontOnly p xs
 
@@ -40,7 +40,7 @@ module _ {A : Type 0} where
   keep-none p (x ∷ xs) none = rw (none x (List·Memᴰ·head refl)) (keep-none p xs (λ y m. none y (List·Memᴰ·tail m)))
 
   -- such a list is what passes, and then what does not
-  keep-front : (p : A → Bool) (xs : List A) → FrontOnly p xs → keep p xs ++ keep (λ (x : A). not (p x)) xs ≡ xs
+  pub keep-front : (p : A → Bool) (xs : List A) → FrontOnly p xs → keep p xs ++ keep (λ (x : A). not (p x)) xs ≡ xs
   unfolding keep
   keep-front p [] front = refl
   keep-front p (x ∷ xs) front = by-test (p x) refl (keep-front p xs (front .1))
@@ -65,7 +65,7 @@ module _ {A : Type 0} where
 -- ---- the keys at the front that pass a test, as entries
 
 module _ (name : Name) (test : Bytes → Bool) (p : Entry → Bool) (same : (e : Entry) → entryOk e ≡ true → test (entryKey name e) ≡ p e) where
-  while-kept : (es : List Entry) → all entryOk es ≡ true → FrontOnly p es → lengthWhile test (map (entryKey name) es) ≡ length (storeBytes name (keep p es))
+  pub while-kept : (es : List Entry) → all entryOk es ≡ true → FrontOnly p es → lengthWhile test (map (entryKey name) es) ≡ length (storeBytes name (keep p es))
   unfolding lengthWhile storeBytes endToEnd keep all
   while-kept [] valid front = refl
   while-kept (e ∷ es) valid front = rw (same e (search both)) (by-test (p e) refl (while-kept es (search both) (front .1)))
@@ -99,10 +99,10 @@ labels-up e f h = by-cases (then-lt (compareBytes (e .label) (f .label)) (compar
     by-cases (inr t) = inr (bytesLawful .tie (e .label) (f .label) (t .0))
 
 module _ (label : Label) where
-  abbrev lower : Entry → Bool
+  abbrev pub lower : Entry → Bool
   lower e = isLt (compareBytes (e .label) label)
 
-  abbrev same : Entry → Bool
+  abbrev pub same : Entry → Bool
   same e = isEq (compareBytes (e .label) label)
 
   module _ (name : Name) (ok : labelOk label ≡ true) (e : Entry) (valid : entryOk e ≡ true) where
@@ -120,12 +120,18 @@ module _ (label : Label) where
         by-order Ordering·eq = refl
         by-order Ordering·gt = refl
 
-    begins-key : startsWith (labelStart name label) (entryKey name e) ≡ same e
+    -- whatever follows the key
+    pub begins-key : (t : Bytes) → startsWith (labelStart name label) (entryKey name e ++ t) ≡ same e
     unfolding labelStart suffix entryOk
-    begins-key =
+    begins-key t =
         let d : Dot = e .dot in
-        rw (entry-key-parts, starts-append (prefix name) (label ++ (0 ∷ [])), starts-itself (prefix name) (e .label ++ suffix d), drop-append-seam (prefix name) (e .label ++ suffix d))
-        (begins-ended (e .label) label (d .actor .number ∷ 0 ∷ bigEndian 8 (d .counter .number)) (text-nonzero labelMost (e .label) (search both)) (text-nonzero labelMost label ok))
+        let more : Bytes = d .actor .number ∷ 0 ∷ (bigEndian 8 (d .counter .number) ++ t) in
+        let parts : entryKey name e ++ t ≡ prefix name ++ (e .label ++ (0 ∷ more)) = rw (entry-key-parts, append-assoc, append-assoc) in
+        rw (parts, starts-common (prefix name) (label ++ (0 ∷ [])) (e .label ++ (0 ∷ more)))
+        (begins-ended (e .label) label more (text-nonzero labelMost (e .label) (search both)) (text-nonzero labelMost label ok))
+
+    pub begins-alone : startsWith (labelStart name label) (entryKey name e) ≡ same e
+    begins-alone = ap (startsWith (labelStart name label)) (sym (append-nil (entryKey name e))) ∙ begins-key []
 
   -- ---- entries of lower labels, and of the label
 
@@ -137,7 +143,7 @@ module _ (label : Label) where
       below f y t (inl l) = true≢false (sym (ap isLt (bytesLawful .chain (e .label) (y .label) label l (lt-is (compareBytes (y .label) label) t))) ∙ f)
       below f y t (inr q) = true≢false (sym t ∙ ap (λ (l : Label). isLt (compareBytes l label)) (sym q) ∙ f)
 
-  same-front : (es : List Entry) → Ascending compareEntries es → all (λ (e : Entry). not (lower e)) es ≡ true → FrontOnly same es
+  pub same-front : (es : List Entry) → Ascending compareEntries es → all (λ (e : Entry). not (lower e)) es ≡ true → FrontOnly same es
   unfolding all
   same-front [] up none = tt
   same-front (e ∷ es) up none = (λ f y m. untrue (same y) (λ t. there f y t (labels-up e y (up .0 y m))), same-front es (up .1) (search both))
@@ -200,7 +206,7 @@ module _ (label : Label) where
     unfolding stretchEnd
     stretch-end =
         ap (λ (n : ℕ). stretchStart name label (storeBytes name es) + n)
-        (rw (from-start, keys-written name later later-valid, while-kept name (startsWith (labelStart name label)) same (begins-key name ok) later later-valid later-front, same-later))
+        (rw (from-start, keys-written name later later-valid, while-kept name (startsWith (labelStart name label)) same (begins-alone name ok) later later-valid later-front, same-later))
 
     -- the stretch, and what follows it
     own-rest : storeBytes name later ≡ storeBytes name (keep same later) ++ storeBytes name (keep (λ (e : Entry). not (same e)) later)

@@ -20,6 +20,7 @@ mod effect;
 mod fastest;
 mod form;
 mod keys;
+mod merging;
 mod message;
 mod plain;
 mod reading;
@@ -40,6 +41,7 @@ pub use tuned::Tuned;
 
 use calls::{compact, own_add, own_remove, take_in};
 use form::Form;
+use merging::merge;
 use reading::{list, lookup, page};
 
 /// Defines the calls of a form, and compiles them here for all.
@@ -72,6 +74,9 @@ calls! {
     fn take_in(block: &mut Block, store: &mut [u8], message: &[u8]) -> u8;
     fn list(block: &Block, store: &[u8], out: &mut [u8]) -> Listed;
     fn page(block: &Block, store: &[u8], start: &[u8], out: &mut [u8]) -> Paged;
+    fn merge(
+        first: &Block, first_store: &[u8], second: &Block, second_store: &[u8], out: &mut [u8]
+    ) -> Listed;
     fn lookup(block: &Block, store: &[u8], label: &[u8]) -> Looked;
     fn compact(block: &mut Block, store: &mut [u8]) -> u8;
 }

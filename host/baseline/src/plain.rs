@@ -4,10 +4,10 @@ use crate::clock::Clock;
 use crate::dot::Dot;
 use crate::form::{Dead, Ends, Form};
 use crate::keys::Prefix;
-use crate::reading::write_label;
-use crate::store::{dot_of, keys, Key};
+use crate::reading::write_listing;
+use crate::store::{dot_of, keys};
 use crate::tombstone::Tombstone;
-use limits::{DOT_COUNT_SIZE, DOT_SIZE, KEY_END, LABEL_MAX};
+use limits::{KEY_END, LABEL_MAX};
 
 /// The calls as an ordinary program has them.
 #[derive(Clone, Copy, PartialEq, Eq, Debug)]
@@ -61,27 +61,6 @@ pub fn write_live<F: Form>(
     let dead = *dead;
     let live = keys::<F>(used, prefix).filter(|key| dead.is_empty() || !dead.has(key.dot()));
     write_listing(live, out)
-}
-
-/// Writes the listing of these keys, for which there is room: its length and number of labels.
-fn write_listing<'a>(live: impl Iterator<Item = Key<'a>>, out: &mut [u8]) -> (usize, usize) {
-    let (mut at, mut labels, mut label) = (0, 0, [].as_slice());
-    // The number of the label's dots, and where it is written.
-    let (mut number, mut number_at) = (0u16, 0);
-    for key in live {
-        if key.label() != label {
-            label = key.label();
-            labels += 1;
-            number = 0;
-            number_at = write_label(label, at, out);
-            at = number_at + DOT_COUNT_SIZE;
-        }
-        number += 1;
-        out[number_at..number_at + DOT_COUNT_SIZE].copy_from_slice(&number.to_be_bytes());
-        out[at..at + DOT_SIZE].copy_from_slice(&key.dot().to_bytes());
-        at += DOT_SIZE;
-    }
-    (at, labels)
 }
 
 /// Looks at one byte after the other.

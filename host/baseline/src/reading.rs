@@ -8,9 +8,9 @@ use crate::form::{Dead, Form};
 use crate::keys::label_keeps_rule;
 use crate::store::{keys, runs, Key};
 use crate::tombstone::Tombstone;
-use limits::{DOT_SIZE, LINE_FIXED};
+use limits::{DOT_COUNT_SIZE, DOT_SIZE, LINE_FIXED};
 
-/// What listing gives.
+/// What listing and merged read give.
 #[derive(Clone, Copy, PartialEq, Eq, Debug, Default)]
 pub struct Listed {
     pub answer: u8,
@@ -62,7 +62,7 @@ fn try_list<F: Form>(block: &Block, store: &[u8], out: &mut [u8]) -> Result<List
 }
 
 /// The bytes of the listing of these keys.
-fn listing_length<'a>(live: impl Iterator<Item = Key<'a>>) -> usize {
+pub fn listing_length<'a>(live: impl Iterator<Item = Key<'a>>) -> usize {
     let (mut length, mut label) = (0, [].as_slice());
     for key in live {
         if key.label() != label {
@@ -74,8 +74,29 @@ fn listing_length<'a>(live: impl Iterator<Item = Key<'a>>) -> usize {
     length
 }
 
+/// Writes the listing of these keys, for which there is room: its length and number of labels.
+pub fn write_listing<'a>(live: impl Iterator<Item = Key<'a>>, out: &mut [u8]) -> (usize, usize) {
+    let (mut at, mut labels, mut label) = (0, 0, [].as_slice());
+    // The number of the label's dots, and where it is written.
+    let (mut number, mut number_at) = (0u16, 0);
+    for key in live {
+        if key.label() != label {
+            label = key.label();
+            labels += 1;
+            number = 0;
+            number_at = write_label(label, at, out);
+            at = number_at + DOT_COUNT_SIZE;
+        }
+        number += 1;
+        out[number_at..number_at + DOT_COUNT_SIZE].copy_from_slice(&number.to_be_bytes());
+        out[at..at + DOT_SIZE].copy_from_slice(&key.dot().to_bytes());
+        at += DOT_SIZE;
+    }
+    (at, labels)
+}
+
 /// Writes a label's length and the label; where the number of its dots goes.
-pub fn write_label(label: &[u8], at: usize, out: &mut [u8]) -> usize {
+fn write_label(label: &[u8], at: usize, out: &mut [u8]) -> usize {
     let end = at + 1 + label.len();
     out[at] = label.len() as u8;
     out[at + 1..end].copy_from_slice(label);

@@ -48,6 +48,8 @@ for_each_form! {
     pages_of_either_side
     pages_start_after_any_label
     a_dead_label_on_a_page
+    merged_reads_of_two_racks
+    merged_reads_of_either_side
     a_tombstone_that_is_full
     a_tombstone_of_dots_without_keys
     slips
@@ -127,6 +129,20 @@ impl<F: Form> Rack<F> {
         assert_eq!(listed.answer, 0);
         out.truncate(listed.written);
         (out, listed.labels)
+    }
+
+    /// Merged read: its answer, bytes and number of labels. Which is first makes no difference.
+    fn merge(&self, other: &Rack<F>, room: usize) -> (u8, Vec<u8>, usize) {
+        let [one, two] = [[self, other], [other, self]].map(|[first, second]| {
+            let mut out = vec![FILL; room];
+            let (block, store) = (&first.block, &first.store);
+            let listed = F::merge(block, store, &second.block, &second.store, &mut out);
+            assert!(out[listed.written..].iter().all(|byte| *byte == FILL));
+            out.truncate(listed.written);
+            (listed.answer, out, listed.labels)
+        });
+        assert_eq!(one, two);
+        one
     }
 
     /// A page: its answer, bytes, number of labels, and whether more follow.
@@ -505,6 +521,46 @@ fn a_dead_label_on_a_page<F: Form>() {
     assert_eq!(one.page(b"", 36), (0, entries[..2].concat(), 2, false));
 }
 
+/// Rack 1 added B7 and B8, rack 2 B7 and C; each took in the other's last.
+fn two_racks<F: Form>() -> [Rack<F>; 2] {
+    let (mut one, mut two) = (Rack::<F>::new(1), Rack::<F>::with_store(2, 300));
+    assert_eq!((one.add(B7, &[]).0, two.add(B7, &[]).0), (0, 0));
+    assert_eq!(two.take(&one.add(b"B8", &[]).1), 0);
+    assert_eq!(one.take(&two.add(b"C", &[]).1), 0);
+    [one, two]
+}
+
+/// What one rack has not heard of is kept; what it has seen and does not list is not.
+fn merged_reads_of_two_racks<F: Form>() {
+    let [mut one, mut two] = two_racks::<F>();
+    let b7 = entry(B7, &[(1, 1), (2, 1)]);
+    let (b8, c) = (entry(b"B8", &[(1, 2)]), entry(b"C", &[(2, 2)]));
+    assert_eq!(one.merge(&two, 99), (0, [&b7[..], &b8, &c].concat(), 3));
+    assert_eq!(two.remove(&[(1, 2)]).0, 0);
+    assert_eq!(one.merge(&two, 99), (0, [&b7[..], &c].concat(), 2));
+    assert_eq!(two.compact(), 0);
+    assert_eq!(one.merge(&two, 99), (0, [&b7[..], &c].concat(), 2));
+    assert_eq!(one.remove(&[(2, 1), (2, 2)]).0, 0);
+    assert_eq!(one.merge(&two, 99), (0, entry(B7, &[(1, 1)]), 1));
+    for rack in [&one, &two, &Rack::new(3)] {
+        let (bytes, labels) = rack.list();
+        assert_eq!(rack.merge(rack, 99), (0, bytes, labels));
+    }
+}
+
+fn merged_reads_of_either_side<F: Form>() {
+    let [one, two] = two_racks::<F>();
+    let refused = |answer| (answer, vec![], 0);
+    assert_eq!(one.merge(&two, 49), refused(13));
+    assert_eq!(one.merge(&two, 50).0, 0);
+    let mut other = Rack::<F>::new(2);
+    assert_eq!(set_up(2, b"R2", &mut other.block), 0);
+    assert_eq!(one.merge(&other, 0), refused(7));
+    other.store.resize(STORE_MAX + 1, 0);
+    assert_eq!(one.merge(&other, 0), refused(1));
+    assert_eq!(Rack::<F>::new(1).merge(&Rack::new(2), 0), refused(0));
+}
+
 fn a_tombstone_that_is_full<F: Form>() {
     let mut one = Rack::<F>::new(1);
     for _ in 0..129 {
@@ -605,6 +661,8 @@ fn answers_1<F: Form>(mut harmed: Rack<F>) {
     assert_eq!((looked.answer, looked.len, looked.listed), (1, 0, false));
     assert_eq!(harmed.page(b"", 99), refused(1));
     assert_eq!(harmed.page(b"\0", 99), refused(1));
+    assert_eq!(harmed.merge(&Rack::new(1), 99), (1, vec![], 0));
+    assert_eq!(harmed.merge(&harmed, 0), (1, vec![], 0));
     let listed = F::list(&harmed.block, &harmed.store, &mut [FILL; 99]);
     assert_eq!((listed.answer, listed.written, listed.labels), (1, 0, 0));
 }

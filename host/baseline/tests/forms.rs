@@ -139,6 +139,22 @@ fn all_calls<F: Calls>(rack: &Rack, given: &Given) -> Vec<(String, Rack, Vec<u8>
     call(&|Rack { block, store }, out| format!("{:?}", F::list(block, store, out)));
     call(&|Rack { block, store }, out| format!("{:?}", F::page(block, store, label, out)));
     call(&|Rack { block, store }, out| format!("{:?}", F::page(block, store, &[], out)));
+    let mut other = rack.clone();
+    F::take_in(&mut other.block, &mut other.store, &given.message);
+    F::own_remove(
+        &mut other.block,
+        &other.store,
+        context,
+        &mut [0; MESSAGE_MAX],
+    );
+    for other in [rack, &other] {
+        call(&|Rack { block, store }, out| {
+            format!(
+                "{:?}",
+                F::merge(block, store, &other.block, &other.store, out)
+            )
+        });
+    }
     call(&|Rack { block, store }, _| format!("{:?}", F::lookup(block, store, label)));
     call(&|Rack { block, store }, _| format!("{}", F::compact(block, store)));
     done

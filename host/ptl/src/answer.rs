@@ -34,7 +34,7 @@ const WORDS: [&str; ANSWERS] = [
     "set name, label, or an actor given to set-up or to a key, breaks its rule; or the label of \
      an add does not print",
     "a dot, a context or a key's counter breaks its rule, or an add's context has its own dot",
-    "message is for another set",
+    "message is for another set, or two controllers are of different sets",
     "an offered dot of this controller's own actor, but for the one an own add takes, is above \
      its own base",
     "own add with the own base at the largest counter",

@@ -16,7 +16,7 @@ pub struct Wrote {
     pub written: usize,
 }
 
-/// What listing gives.
+/// What listing and merged read give.
 #[derive(Clone, Copy, PartialEq, Eq, Debug)]
 pub struct Listed {
     pub answer: u8,
@@ -215,6 +215,39 @@ pub fn page(state: &State, store: &[u8], start: &[u8], out: &mut [u8]) -> Paged 
     }
 }
 
+/// Merged read: one listing of two controllers, which may be the same.
+pub fn merge(
+    first: &State,
+    first_store: &[u8],
+    second: &State,
+    second_store: &[u8],
+    out: &mut [u8],
+) -> Listed {
+    let (first, second) = (first.block(), second.block());
+    let (mut written, mut labels) = (0, 0);
+    let answer = unsafe {
+        ffi::ptl_merge(
+            first.as_ptr(),
+            first.len(),
+            first_store.as_ptr(),
+            first_store.len(),
+            second.as_ptr(),
+            second.len(),
+            second_store.as_ptr(),
+            second_store.len(),
+            out.as_mut_ptr(),
+            out.len(),
+            &mut written,
+            &mut labels,
+        )
+    };
+    Listed {
+        answer,
+        written,
+        labels,
+    }
+}
+
 /// Lookup.
 pub fn lookup(state: &State, store: &[u8], label: &[u8]) -> Looked {
     let state = state.block();
@@ -405,6 +438,23 @@ mod tests {
             let f = &mut found;
             let looked = unsafe { ffi::ptl_lookup(s, size, t, 64, l, 2, f, &mut listed) };
             assert_eq!((looked, listed, found.at, found.len), (1, false, t, 0));
+        }
+    }
+
+    #[test]
+    fn merged_read_answers_1_for_a_block_of_another_size_on_either_side() {
+        let sound = block(STATE_SIZE);
+        for size in SIZES {
+            let (odd, store, mut out) = (block(size), [FILL; 64], [FILL; 64]);
+            for [one, two] in [[&odd, &sound], [&sound, &odd], [&odd, &odd]] {
+                let (s, n) = (one.as_ptr(), one.len());
+                let (t, m) = (two.as_ptr(), two.len());
+                let (k, o) = (store.as_ptr(), out.as_mut_ptr());
+                let (mut w, mut l) = (77, 77);
+                let answer =
+                    unsafe { ffi::ptl_merge(s, n, k, 64, t, m, k, 64, o, 64, &mut w, &mut l) };
+                assert_eq!((answer, w, l, out), (1, 0, 0, [FILL; 64]));
+            }
         }
     }
 }

@@ -4,7 +4,7 @@
 mod tests;
 
 use crate::engine::Engine;
-use crate::script::{parse, Line, Rack, Why, Worded, LINE_MAX, RACKS};
+use crate::script::{parse, Both, Line, Rack, Why, Worded, LINE_MAX, RACKS};
 use std::io::{self, BufRead, BufReader, Read, Write};
 
 /// Carries out the lines of the input. What is written comes out before more input is awaited.
@@ -39,13 +39,18 @@ fn is_silent(line: &[u8]) -> bool {
 /// Carries out one line; the output line.
 fn obey(engine: &dyn Engine, racks: &mut [Rack], line: &[u8]) -> Result<String, Why> {
     let (at, line) = parse(line)?;
-    let rack = &mut racks[at];
     match line {
-        Line::Tool(tool) => rack.obey(&tool),
+        Line::Tool(tool) => racks[at].obey(&tool),
         Line::Command(command) => {
             let mut out = vec![0; command.out()];
-            let reply = engine.run(rack, &command, &mut out);
+            let reply = engine.run(&mut racks[at], &command, &mut out);
             Ok(reply.line(&command, &out))
+        }
+        Line::Both(both) => {
+            let mut out = vec![0; both.out()];
+            let Both::Merge { first, second, .. } = both;
+            let reply = engine.merge(&racks[first], &racks[second], &mut out);
+            Ok(reply.line_of_both(&both, &out))
         }
     }
 }

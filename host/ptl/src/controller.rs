@@ -117,6 +117,18 @@ impl Controller {
         })
     }
 
+    /// One listing of two controllers of one set, which may be the same: each label with the dots
+    /// that both list under it, and those that one lists and the other has not seen. Which is asked
+    /// makes no difference. Never answers `OutputShort`: an entry is shorter than its keys.
+    pub fn merge(&self, other: &Controller) -> Result<Listing, Answer> {
+        let mut bytes = vec![0; self.store.len() + other.store.len()];
+        let (state, store) = (&self.state, &self.store);
+        let done = calls::merge(state, store, &other.state, &other.store, &mut bytes);
+        bytes.truncate(done.written);
+        let labels = done.labels;
+        Answer::give(done.answer, || Listing { bytes, labels })
+    }
+
     /// Looks a label up.
     pub fn lookup(&self, label: &Label) -> Result<Found<'_>, Answer> {
         let looked = calls::lookup(&self.state, &self.store, &label.0);

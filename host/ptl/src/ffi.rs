@@ -79,6 +79,21 @@ extern "C" {
         more: *mut bool,
     ) -> u8;
 
+    pub fn ptl_merge(
+        first: *const u8,
+        first_len: usize,
+        first_store: *const u8,
+        first_store_len: usize,
+        second: *const u8,
+        second_len: usize,
+        second_store: *const u8,
+        second_store_len: usize,
+        out: *mut u8,
+        out_len: usize,
+        written: *mut usize,
+        labels: *mut usize,
+    ) -> u8;
+
     pub fn ptl_lookup(
         state: *const u8,
         state_len: usize,

@@ -423,6 +423,87 @@ fn a_page_speaks_of_the_state_that_it_finds() {
     assert_eq!(next.next_start(), None);
 }
 
+/// Two racks that have not heard the same. Rack 1 added B7 and B8, rack 2 B7 and C; each took in
+/// the other's last.
+fn two_racks() -> [Controller; 2] {
+    let (mut one, mut two) = (fresh(1), with_store(2, 300));
+    one.own_add(&b7(), &[]).expect("accepted");
+    let b8 = one.own_add(&Label::from("B8"), &[]).expect("accepted");
+    two.own_add(&b7(), &[]).expect("accepted");
+    let c = two.own_add(&Label::from("C"), &[]).expect("accepted");
+    assert_eq!((one.take_in(&c), two.take_in(&b8)), (Ok(()), Ok(())));
+    [one, two]
+}
+
+/// What two list together, asked either way.
+fn merged(one: &Controller, two: &Controller) -> Vec<Entry> {
+    let merged = one.merge(two).expect("both are sound");
+    assert_eq!(two.merge(one), Ok(merged.clone()));
+    let entries = merged.entries();
+    assert_eq!(entries.len(), merged.labels);
+    entries
+}
+
+#[test]
+fn two_racks_list_together_what_neither_lists_alone() {
+    let [one, two] = two_racks();
+    let rest = [entry("B8", &[dot(1, 2)]), entry("C", &[dot(2, 2)])];
+    let lists = |dots: &[Dot]| [&[entry("B7", dots)], &rest[..]].concat();
+    assert_eq!(listed(&one), lists(&[dot(1, 1)]));
+    assert_eq!(listed(&two), lists(&[dot(2, 1)]));
+    assert_eq!(merged(&one, &two), lists(&[dot(1, 1), dot(2, 1)]));
+    assert_eq!(merged(&one, &one), listed(&one));
+    assert_eq!(merged(&one, &one.clone()), listed(&one));
+}
+
+/// A dot that one of them has seen and does not list stays away, compacted or not.
+#[test]
+fn what_one_rack_has_removed_is_not_listed_together() {
+    let [mut one, mut two] = two_racks();
+    two.own_remove(&[dot(1, 2)]).expect("accepted");
+    one.own_remove(&[dot(2, 2)]).expect("accepted");
+    let left = [entry("B7", &[dot(1, 1), dot(2, 1)])];
+    assert_eq!(merged(&one, &two), left);
+    assert_eq!((one.compact(), two.compact()), (Ok(()), Ok(())));
+    assert_eq!((one.state().count(), two.state().count()), (0, 0));
+    assert_eq!(merged(&one, &two), left);
+    // Rack 2 hears of the remove before the add, and never stores the dot.
+    assert_eq!(two.take_in(&remove(&[dot(1, 1)])), Ok(()));
+    assert_eq!(merged(&one, &two), [entry("B7", &[dot(2, 1)])]);
+}
+
+#[test]
+fn merged_reads_of_either_side() {
+    let [one, two] = two_racks();
+    let all = one.merge(&two).expect("both are sound").bytes;
+    let read = |one: &Controller, two: &Controller, room: usize| {
+        let before = [one.clone(), two.clone()];
+        let mut out = vec![0xEE; room];
+        let (states, stores) = ([one.state(), two.state()], [one.store(), two.store()]);
+        let done = ptl::calls::merge(states[0], stores[0], states[1], stores[1], &mut out);
+        assert_eq!([one, two], before.each_ref());
+        assert_eq!(out[..done.written], all[..done.written]);
+        assert_eq!(out[done.written..], vec![0xEE; room - done.written]);
+        (done.answer, done.written, done.labels)
+    };
+    assert_eq!(all.len(), 50);
+    assert_eq!(read(&one, &two, 49), (13, 0, 0));
+    assert_eq!(read(&one, &two, 50), (0, 50, 3));
+    assert_eq!(read(&one, &two, 51), (0, 50, 3));
+    assert_eq!(read(&fresh(1), &fresh(2), 0), (0, 0, 0));
+    // A name that goes on, and one that differs at its end; then the same with the store too long.
+    for name in ["R", "R12", "R2"] {
+        let other = Controller::set_up(Actor(2), &SetName::from(name), vec![]);
+        let other = other.expect("keeps the rules");
+        assert_eq!(read(&one, &other, 0), (7, 0, 0));
+        assert_eq!(read(&other, &one, 60), (7, 0, 0));
+        let (state, _) = other.into_parts();
+        let long = Controller::of_parts(state, vec![0; STORE_MAX + 1]);
+        assert_eq!(read(&one, &long, 0), (1, 0, 0));
+        assert_eq!(read(&long, &one, 60), (1, 0, 0));
+    }
+}
+
 #[test]
 fn a_tombstone_that_is_full() {
     let mut one = fresh(1);
@@ -518,6 +599,8 @@ fn any_state_is_answered() {
         assert_eq!(any.page(&Label::from("\0"), &mut out), Err(Answer::Damaged));
         assert_eq!(out, [fill; 300]);
         assert_eq!(any.lookup(&b7()), Err(Answer::Damaged));
+        assert_eq!(any.merge(&fresh(1)), Err(Answer::Damaged));
+        assert_eq!(fresh(1).merge(&any), Err(Answer::Damaged));
         assert_eq!(any.compact(), Err(Answer::Damaged));
         assert_eq!(any, before);
     }

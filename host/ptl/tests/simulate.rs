@@ -69,12 +69,28 @@ fn every_box_lights_the_new_bin_of_the_gas_springs() {
         .collect();
     for (row, number) in rows.iter().zip(1..) {
         assert_eq!(row[0], number.to_string());
+        // By the box alone, together with the gas springs' own, and at the end.
         assert!(["B7", "C2"].contains(&row[1]), "{row:?}");
-        assert_eq!(row[2], "C2");
+        assert_eq!(row[2..4], ["C2", "C2"]);
         assert_eq!(row[row.len() - 2..], ["agrees", "agrees"]);
     }
     assert_eq!(rows.len(), 16);
     assert!(rows.iter().any(|row| row[1] == "B7"), "{report}");
+}
+
+/// Two boxes asked at once show what neither lists alone, and the report tells of it.
+#[test]
+fn boxes_asked_at_once_are_told_of() {
+    let report = printed(&simulate(&["--seed", "2"]));
+    let told = report.replace('\n', " ");
+    let (before, after) = told
+        .split_once(" were what neither box listed alone. For one: at lunch box ")
+        .expect("the sentence");
+    let news = before.rsplit(' ').next().and_then(|word| word.parse().ok());
+    assert!(news.is_some_and(|news: u64| news > 100), "{report}");
+    let gone = after.split_once(" and without ").expect("what is gone").1;
+    let gone = gone.split(' ').next().and_then(|word| word.parse().ok());
+    assert!(gone.is_some_and(|gone: u64| gone > 0), "{report}");
 }
 
 #[test]

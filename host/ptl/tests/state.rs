@@ -111,7 +111,10 @@ fn answers_have_their_numbers() {
         (0, "done"),
         (1, "the state is damaged, or the store is longer than 65536"),
         (3, "version other than 1"),
-        (7, "message is for another set"),
+        (
+            7,
+            "message is for another set, or two controllers are of different sets",
+        ),
         (9, "own add with the own base at the largest counter"),
         (
             10,

@@ -14,7 +14,7 @@ pub const BAD_SHAPE: u8 = 4;
 pub const BAD_NAME: u8 = 5;
 /// A dot, a context or a key's counter breaks its rule, or an add's context has its own dot.
 pub const BAD_DOT: u8 = 6;
-/// Message is for another set.
+/// Message is for another set, or two controllers are of different sets.
 pub const OTHER_SET: u8 = 7;
 /// An offered own dot is above the own base.
 pub const OWN_AHEAD: u8 = 8;

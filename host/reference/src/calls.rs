@@ -17,7 +17,7 @@ pub struct Outcome {
     pub written: u64,
 }
 
-/// What listing gives: bytes written and number of labels, both 0 if refused.
+/// What listing and merged read give: bytes written and number of labels, both 0 if refused.
 #[derive(Clone, PartialEq, Eq, Debug)]
 pub struct Listed {
     pub answer: u8,
@@ -84,18 +84,20 @@ pub fn compact(state: &State, store: &mut [u8]) -> Outcome {
 
 /// Listing: answers 1, 13.
 pub fn list(state: &State, store: &[u8], out: &mut [u8]) -> Listed {
-    match try_list(state, store, out) {
-        Ok((written, labels)) => Listed {
-            answer: DONE,
-            written,
-            labels,
-        },
-        Err(answer) => Listed {
-            answer,
-            written: 0,
-            labels: 0,
-        },
-    }
+    listed(try_list(state, store, out))
+}
+
+/// Merged read: one listing of two controllers. Answers 1 if either is damaged, then 7, 13.
+pub fn merge(
+    first: &State,
+    first_store: &[u8],
+    second: &State,
+    second_store: &[u8],
+    out: &mut [u8],
+) -> Listed {
+    let read = [(first, first_store), (second, second_store)]
+        .map(|(state, store)| Held::read(state, store));
+    listed(try_merge(read, out))
 }
 
 /// Paged listing: the labels after the starting one, the empty one being the front, as many whole
@@ -132,6 +134,18 @@ pub fn lookup(state: &State, store: &[u8], label: &[u8]) -> Looked {
             end: 0,
             listed: false,
         },
+    }
+}
+
+fn listed(result: Result<(u64, u64), u8>) -> Listed {
+    let (answer, written, labels) = match result {
+        Ok((written, labels)) => (DONE, written, labels),
+        Err(answer) => (answer, 0, 0),
+    };
+    Listed {
+        answer,
+        written,
+        labels,
     }
 }
 
@@ -221,12 +235,15 @@ fn try_compact(state: &State, store: &mut [u8]) -> Result<(State, u64), u8> {
 
 fn try_list(state: &State, store: &[u8], out: &mut [u8]) -> Result<(u64, u64), u8> {
     let held = Held::read(state, store).ok_or(DAMAGED)?;
-    let listed = live(&held);
-    let entries = listed.iter().map(|(label, dots)| entry(label, dots));
-    let bytes = entries.collect::<Vec<_>>().concat();
-    let place = out.get_mut(..bytes.len()).ok_or(OUTPUT_SHORT)?;
-    place.copy_from_slice(&bytes);
-    Ok((bytes.len() as u64, listed.len() as u64))
+    write_listing(&live(&held), out)
+}
+
+fn try_merge([one, two]: [Option<Held>; 2], out: &mut [u8]) -> Result<(u64, u64), u8> {
+    let (one, two) = one.zip(two).ok_or(DAMAGED)?;
+    if one.name != two.name {
+        return Err(OTHER_SET);
+    }
+    write_listing(&live_in_both(&one, &two), out)
 }
 
 fn try_page(
@@ -270,15 +287,52 @@ fn try_lookup(state: &State, store: &[u8], label: &[u8]) -> Result<(u64, u64, bo
     Ok((start, end, live(&held).contains_key(label)))
 }
 
+/// Labels with their dots, in the order of a listing.
+type Labels<'a> = BTreeMap<&'a [u8], BTreeSet<Dot>>;
+
 /// Each label with at least one stored key whose dot is not in the tombstone, with those dots.
-fn live(held: &Held) -> BTreeMap<&[u8], BTreeSet<Dot>> {
-    let mut listed: BTreeMap<&[u8], BTreeSet<Dot>> = BTreeMap::new();
+fn live(held: &Held) -> Labels<'_> {
+    let mut listed = Labels::new();
     for (label, dot) in &held.store {
         if !held.tombstone.contains(dot) {
             listed.entry(label).or_default().insert(*dot);
         }
     }
     listed
+}
+
+/// What two list together. A label's dot is kept if both list it under that label, or if one
+/// lists it and the other's clock has not seen it.
+fn live_in_both<'a>(one: &'a Held, two: &'a Held) -> Labels<'a> {
+    let (of_one, of_two) = (live(one), live(two));
+    let lists = |listed: &Labels, label: &[u8], dot: &Dot| {
+        let dots = listed.get(label);
+        dots.is_some_and(|dots| dots.contains(dot))
+    };
+    let mut kept = Labels::new();
+    for (label, dots) in of_one.iter().chain(&of_two) {
+        for dot in dots {
+            let keeps = match (lists(&of_one, label, dot), lists(&of_two, label, dot)) {
+                (true, true) => true,
+                (true, false) => !two.clock.sees(*dot),
+                (false, true) => !one.clock.sees(*dot),
+                (false, false) => false,
+            };
+            if keeps {
+                kept.entry(label).or_default().insert(*dot);
+            }
+        }
+    }
+    kept
+}
+
+/// Writes a listing to the front of the output, or answers 13: its length and number of labels.
+fn write_listing(listed: &Labels, out: &mut [u8]) -> Result<(u64, u64), u8> {
+    let entries = listed.iter().map(|(label, dots)| entry(label, dots));
+    let bytes = entries.collect::<Vec<_>>().concat();
+    let place = out.get_mut(..bytes.len()).ok_or(OUTPUT_SHORT)?;
+    place.copy_from_slice(&bytes);
+    Ok((bytes.len() as u64, listed.len() as u64))
 }
 
 /// The bytes of a listed label: its length, itself, the number of its dots, the dots.

@@ -54,6 +54,14 @@ impl Rule {
         self.removed.extend(&message.context);
     }
 
+    /// The rule over all calls that either accepted. It is to be asked, and told of no call more.
+    pub fn over_both(&self, other: &Rule) -> Rule {
+        let mut both = self.clone();
+        both.pairs.extend(other.pairs.clone());
+        both.removed.extend(&other.removed);
+        both
+    }
+
     /// The proviso of demand 3: no two accepted adds gave one dot to different labels.
     pub fn has_one_label_a_dot(&self) -> bool {
         let dots: BTreeSet<Dot> = self.pairs.iter().map(|(_, dot)| *dot).collect();

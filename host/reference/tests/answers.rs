@@ -282,6 +282,111 @@ fn calls_between_pages() {
     assert_eq!((next.labels, next.more), (1, false));
 }
 
+/// Two controllers: actor 1 added B7 and B8, of which actor 2 took in the first; actor 2 added B7
+/// and C, of which actor 1 took in the second.
+fn two_racks() -> [Bench; 2] {
+    let (mut one, mut two) = (Bench::new(1), Bench::new(2));
+    assert_eq!(two.take(&one.add(B7, &[]).1), 0);
+    one.add(b"B8", &[]);
+    two.add(B7, &[]);
+    assert_eq!(one.take(&two.add(b"C", &[]).1), 0);
+    [one, two]
+}
+
+/// What both list, and what one lists and the other has not seen.
+#[test]
+fn merged_reads_keep_what_only_one_has_heard_of() {
+    let [one, two] = two_racks();
+    let b7 = entry(B7, &[(1, 1), (2, 1)]);
+    let all = [b7, entry(b"B8", &[(1, 2)]), entry(b"C", &[(2, 2)])].concat();
+    assert_eq!(one.merge(&two), (0, all.clone(), 3));
+    assert_eq!(one.list().2, 3);
+    assert_eq!(two.list().2, 2);
+    for room in [0, all.len() - 1] {
+        assert_eq!(one.merge_into(&two, room), (13, vec![], 0));
+    }
+    assert_eq!(one.merge_into(&two, all.len()), (0, all, 3));
+}
+
+/// What one lists and the other has seen and does not list is gone, compacted or not; what neither
+/// tombstone has any more too.
+#[test]
+fn merged_reads_drop_what_one_has_removed() {
+    let [mut one, mut two] = two_racks();
+    two.remove(&[(1, 1), (2, 1)]);
+    one.remove(&[(2, 2)]);
+    let left = entry(b"B8", &[(1, 2)]);
+    assert_eq!(one.merge(&two), (0, left.clone(), 1));
+    assert_eq!((one.compact(), two.compact()), (0, 0));
+    assert_eq!(one.merge(&two), (0, left, 1));
+    // A remove that comes before the add: the dot is seen, and was never stored.
+    assert_eq!(two.take(&remove_message(b"R1", &[(1, 2)])), 0);
+    assert_eq!(one.merge(&two), (0, vec![], 0));
+}
+
+/// The dots count, not the labels: either may have removed those that the other keeps.
+#[test]
+fn merged_reads_take_each_dot_by_itself() {
+    let [mut one, mut two] = two_racks();
+    one.remove(&[(1, 1)]);
+    two.remove(&[(2, 2)]);
+    two.add(b"C", &[]);
+    let b7 = entry(B7, &[(2, 1)]);
+    let all = [b7, entry(b"B8", &[(1, 2)]), entry(b"C", &[(2, 3)])].concat();
+    assert_eq!(one.merge(&two), (0, all, 3));
+}
+
+/// Outside demand 3's proviso: one dot under two labels, of which each lists one. Both have seen
+/// the dot, so that neither label is kept.
+#[test]
+fn merged_reads_of_a_dot_under_two_labels() {
+    let (mut one, mut two) = (Bench::new(1), Bench::new(1));
+    one.add(B7, &[]);
+    two.add(b"B8", &[]);
+    assert_eq!(one.merge(&two), (0, vec![], 0));
+    let both = [key(B7, (1, 1)), key(b"B8", (1, 1))].concat();
+    two.set_used(&both);
+    assert_eq!(one.merge(&two), (0, entry(B7, &[(1, 1)]), 1));
+}
+
+#[test]
+fn a_controller_merged_with_itself_is_its_listing() {
+    for bench in two_racks().into_iter().chain([Bench::new(3)]) {
+        assert_eq!(bench.merge(&bench), bench.list());
+    }
+    let (one, two) = (Bench::with_store(1, 0), Bench::with_store(2, 9));
+    assert_eq!(one.merge_into(&two, 0), (0, vec![], 0));
+}
+
+#[test]
+fn merge_ladder() {
+    let [one, two] = two_racks();
+    let mut bad = one.clone();
+    bad.state.used -= 1;
+    let mut long = two.clone();
+    long.store.resize(65_537, 0);
+    let mut other = Bench::new(2);
+    other.state = set_up(2, b"R2").1;
+    let mut empty = Bench::new(2);
+    empty.state = set_up(2, b"R").1;
+    let steps: [(&Bench, &Bench, usize, u8); 11] = [
+        (&bad, &bad, 0, 1),
+        (&bad, &other, 0, 1),
+        (&other, &bad, 0, 1),
+        (&one, &long, 300, 1),
+        (&long, &one, 300, 1),
+        (&one, &other, 0, 7),
+        (&other, &one, 300, 7),
+        (&empty, &two, 300, 7),
+        (&one, &two, 49, 13),
+        (&one, &two, 50, 0),
+        (&other, &other, 0, 0),
+    ];
+    for (one, two, room, answer) in steps {
+        assert_eq!(one.merge_into(two, room).0, answer);
+    }
+}
+
 #[test]
 fn lookup_answers() {
     let mut bench = Bench::new(1);

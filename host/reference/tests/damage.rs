@@ -16,7 +16,7 @@ fn sound() -> Bench {
 }
 
 /// The answers of all calls that take a state, each with arguments that it accepts.
-fn answers(bench: &Bench) -> [u8; 7] {
+fn answers(bench: &Bench) -> [u8; 8] {
     [
         bench.clone().add(b"A", &[]).0,
         bench.clone().remove(&[(3, 5)]).0,
@@ -24,6 +24,7 @@ fn answers(bench: &Bench) -> [u8; 7] {
         bench.list().0,
         bench.page(b"", 100).0,
         bench.lookup(b"B7").answer,
+        bench.merge(&sound()).0,
         bench.clone().compact(),
     ]
 }
@@ -32,11 +33,17 @@ fn answers(bench: &Bench) -> [u8; 7] {
 fn is_damage(what: &str, change: impl Fn(&mut Bench)) {
     let mut bench = sound();
     change(&mut bench);
-    assert_eq!(answers(&bench), [1; 7], "{what}");
+    assert_eq!(answers(&bench), [1; 8], "{what}");
     assert_eq!(bench.clone().add_bytes(b"", &[0], 0).0, 1, "{what}");
     assert_eq!(bench.clone().remove_bytes(&[0], 0).0, 1, "{what}");
     assert_eq!(bench.clone().take(b""), 1, "{what}");
     assert_eq!(bench.page(&[0], 0).0, 1, "{what}");
+    let other = Bench {
+        state: set_up(2, b"other").1,
+        store: Vec::new(),
+    };
+    assert_eq!(bench.merge_into(&other, 0).0, 1, "{what}");
+    assert_eq!(other.merge_into(&bench, 0).0, 1, "{what}");
     let refused = lookup(&bench.state, &bench.store, b"");
     assert_eq!((refused.start, refused.end, refused.listed), (0, 0, false));
 }
@@ -45,7 +52,7 @@ fn is_damage(what: &str, change: impl Fn(&mut Bench)) {
 fn is_sound(what: &str, change: impl Fn(&mut Bench)) {
     let mut bench = sound();
     change(&mut bench);
-    assert_eq!(answers(&bench), [0; 7], "{what}");
+    assert_eq!(answers(&bench), [0; 8], "{what}");
 }
 
 #[test]

@@ -1,6 +1,7 @@
 //! Demand 3 over random sequences: several controllers exchange messages that are shuffled,
-//! repeated, lost and cut; after each call, calls and rule are compared. Then everything that
-//! was sent is delivered, and controllers that accepted the same messages must agree.
+//! repeated, lost and cut; after each call, calls and rule are compared, and a merged read of two
+//! with the rule over both. Then everything that was sent is delivered, and controllers that
+//! accepted the same messages must agree.
 mod common;
 use common::*;
 use reference::limits::CONTEXT_DOTS_MAX;
@@ -78,6 +79,26 @@ impl World {
             _ => self.deliver(at),
         }
         self.nodes[at].agrees();
+        let other = self.random.below(self.nodes.len() as u64) as usize;
+        self.merge(at, other);
+    }
+
+    /// Compares a merged read of two controllers with the rule over all that either accepted.
+    fn merge(&mut self, at: usize, other: usize) {
+        let (one, two) = (&self.nodes[at], &self.nodes[other]);
+        let merged = one.bench.merge(&two.bench);
+        let both = one.rule.over_both(&two.rule);
+        let (bytes, labels) = both.listing();
+        assert!(both.has_one_label_a_dot());
+        assert_eq!(merged, (0, bytes, labels));
+        let room = (merged.1.len() as u64).saturating_sub(self.random.below(3));
+        let answer = one.bench.merge_into(&two.bench, room as usize).0;
+        assert_eq!(answer == 0, room == merged.1.len() as u64);
+        let what = match [one, two].map(|node| node.bench.list() == merged) {
+            [false, false] => "merge, as neither lists",
+            _ => "merge, as one lists",
+        };
+        *self.tally.entry((what, answer)).or_default() += 1;
     }
 
     /// The room of an output: ample, or now and then too short.
@@ -338,6 +359,9 @@ fn honest_controllers() {
     met(&tally, "own remove", &[0, 13]);
     met(&tally, "taking in", &[0, 2, 4, 12]);
     met(&tally, "compaction", &[0]);
+    met(&tally, "merge, as one lists", &[0, 13]);
+    met(&tally, "merge, as neither lists", &[0, 13]);
+    assert!(tally[&("merge, as neither lists", 0)] > 300);
 }
 
 #[test]

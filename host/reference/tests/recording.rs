@@ -15,13 +15,14 @@ const MARK: &str = "# ---- recording";
 const ASCENDING: &str = "# ==== Keys in ascending order, in each case";
 
 /// The answers that each call can give.
-const ANSWERS: [(&str, &[u8]); 11] = [
+const ANSWERS: [(&str, &[u8]); 12] = [
     ("setup", &[0, 5]),
     ("add", &[0, 1, 5, 6, 8, 9, 10, 11, 12, 13]),
     ("remove", &[0, 1, 6, 8, 10, 11, 13]),
     ("take", &[0, 1, 2, 3, 4, 5, 6, 7, 8, 10, 11, 12]),
     ("list", &[0, 1, 13]),
     ("page", &[0, 1, 5, 13]),
+    ("merge", &[0, 1, 7, 13]),
     ("lookup", &[0, 1, 5]),
     ("compact", &[0, 1]),
     ("key", &[0, 5, 6, 13]),

@@ -2,12 +2,10 @@
 use mathlib.Core.Bool.{false}
 use mathlib.Core.Path.{_≡_, sym, _∙_}
 use native.Mathlib.Omega.{arith}
-use Rattle.calls.specs.declared.State.{State}
 use Rattle.calls.specs.State.{usedPart, Sized}
 use Rattle.calls.specs.Damage.{damaged}
 use Rattle.calls.proofs.Clauses.{undamaged, used-fits}
 use Rattle.calls.proofs.Sized.{sized}
-use Rattle.judging.proofs.Heads.{at-head}
 use Rattle.judging.proofs.Parts.{front-size}
 use Rattle.reads.proofs.ReadCalls.{stored-keys, readable, damaged-listing, undamaged-listing}
 use borrow.Author.Needs.{needs}
@@ -15,48 +13,39 @@ use Rattle.reads.proofs.list.Statement.{statement}
 use Rattle.reads.proofs.list.Tie as tie
 
 -- the arrays of the state have their sizes
-sizes : (s : tie.Start) → Sized (s .args .t1)
-sizes s = let g = s .good .0 .1 .1 in sized (s .args .t1) (g .0 .1 .1 .0 .1 .0 .1) (g .1 .0 .1 .1 .0 .1 .0 .1) (g .1 .1 .0 .1 .1 .0 .1 .0 .1)
+sizes : (s : tie.Start) → Sized (s .args .state)
+sizes s = let g = s .good .0 .1 .1 in sized (s .args .state) (g .0 .1 .1 .0 .1 .0 .1) (g .1 .0 .1 .1 .0 .1 .0 .1) (g .1 .1 .0 .1 .1 .0 .1 .0 .1)
 
-abbrev start : tie.After-damaged → tie.Start
-start c = c .before .before .before .before .before .before .before
+abbrev start : tie.After-is-damaged → tie.Start
+start c = c .before .before .before
 
-told : (c : tie.After-damaged) → c .damaged .result ≡ damaged (start c .args .t1) (start c .args .store .now)
-told c = let s = start c in at-head (s .args .t1) _ (c .before .before .before .before .head-of .ensures) (λ (x : State). c .damaged .result ≡ damaged x (s .args .store .now)) (c .damaged .ensures)
-
-head-of-requires : tie.Need-head-of-requires
-head-of-requires c κs = search needs
-
-damaged-requires : tie.Need-damaged-requires
-damaged-requires c κs = search needs
+is-damaged-requires : tie.Need-is-damaged-requires
+is-damaged-requires c κs = search needs
 
 returns : tie.Need-returns
-returns c = let s = start (c .before) in damaged-listing (s .args .t1) (s .args .store .now) _ (sym (told (c .before)) ∙ c .if1 .taken)
+returns c = let s = start (c .before) in damaged-listing (s .args .state) (s .args .store .now) _ (sym (c .before .is-damaged .ensures) ∙ c .if1 .taken)
 
 -- an undamaged store's used part
-abbrev read : tie.Else1 → tie.After-damaged
-read e = e .before
-
-may : (e : tie.Else1) → damaged (start (read e) .args .t1) (start (read e) .args .store .now) ≡ false
-may e = sym (told (read e)) ∙ e .if1 .left
+may : (e : tie.Else1) → let s = start (e .before) in damaged (s .args .state) (s .args .store .now) ≡ false
+may e = sym (e .before .is-damaged .ensures) ∙ e .if1 .left
 
 slice-aggregate-put-used : tie.Need-slice-aggregate-put-used
 slice-aggregate-put-used c =
     let e = c .before .before in
-    let s = start (read e) in
-    front-size (s .args .store .now) (s .args .t1 .used) (used-fits (s .args .t1) (s .args .store .now) (undamaged (s .args .t1) (s .args .store .now) (may e)))
+    let s = start (e .before) in
+    front-size (s .args .store .now) (s .args .state .used) (used-fits (s .args .state) (s .args .store .now) (undamaged (s .args .state) (s .args .store .now) (may e)))
 
 slice-aggregate-put-used-2 : tie.Need-slice-aggregate-put-used-2
-slice-aggregate-put-used-2 c = let s = start (read (c .before .before .before)) in sym (sizes s .tombstone-size)
+slice-aggregate-put-used-2 c = search needs
 
 put-used-requires : tie.Need-put-used-requires
 put-used-requires c κs =
     let e = c .before .before .before .before in
-    let s = start (read e) in
-    readable (s .args .t1) (s .args .store .now) (usedPart (s .args .t1) (s .args .store .now)) (sizes s) (may e) (stored-keys (s .args .t1) (s .args .store .now) (sizes s) (may e)) (omega arith)
+    let s = start (e .before) in
+    readable (s .args .state) (s .args .store .now) (usedPart (s .args .state) (s .args .store .now)) (sizes s) (may e) (stored-keys (s .args .state) (s .args .store .now) (sizes s) (may e)) (omega arith)
 
-put-answer-requires : tie.Need-put-answer-requires
-put-answer-requires c κs = search needs
+listed-requires : tie.Need-listed-requires
+listed-requires c κs = search needs
 
 same-length : tie.Need-same-length
 same-length c = search needs
@@ -65,19 +54,18 @@ returns-2 : tie.Need-returns-2
 returns-2 c =
     let put = c .before .before .before in
     let e = put .before .before .before .before .before in
-    let s = start (read e) in
-    undamaged-listing (s .args .t1) (s .args .store .now) _ _ (put .put-used .result) _ (sizes s) (may e) (c .put-answer .ensures) (put .put-used .ensures)
+    let s = start (e .before) in
+    undamaged-listing (s .args .state) (s .args .store .now) _ _ (put .put-used .result) _ (sizes s) (may e) (c .listed .ensures) (put .put-used .ensures)
 
 pub list-spec : {M : Type 1} → statement M
 list-spec =
     tie.close
     (tie.spec
-    head-of-requires
-    damaged-requires
+    is-damaged-requires
     returns
     slice-aggregate-put-used
     slice-aggregate-put-used-2
     put-used-requires
-    put-answer-requires
+    listed-requires
     same-length
     returns-2)

@@ -1,7 +1,6 @@
 -- The first refusal that holds, with the empty stretch; else the stretch in the used part, and whether a key in it is live.
 use mathlib.Core.Bool.{true, false}
 use mathlib.Core.Path.{_≡_, sym}
-use native.Mathlib.Omega.{arith}
 use Rattle.dots.specs.Names.{labelOk}
 use Rattle.calls.specs.declared.State.{State}
 use Rattle.calls.specs.State.{Sized}
@@ -11,7 +10,7 @@ use Rattle.calls.proofs.Sized.{sized}
 use Rattle.judging.specs.Judging.{Judges}
 use Rattle.judging.proofs.DamageTest.{tells-damage, tells-place}
 use Rattle.judging.proofs.Heads.{at-head}
-use Rattle.reads.proofs.ReadCalls.{name-most, name-size, tombstone-most, tombstone-ascends, look-is, may-look, not-looked, stretch-fits, looked}
+use Rattle.reads.proofs.ReadCalls.{name-most, name-fits, name-size, tombstone-most, tombstone-ascends, look-is, may-look, not-looked, stretch-fits, looked}
 use borrow.Author.Needs.{needs}
 use Rattle.reads.proofs.lookup.Statement.{statement}
 use Rattle.reads.proofs.lookup.Tie as tie
@@ -79,11 +78,10 @@ used-stretch-requires c κs =
     let s = begun e in
     let st = s .args .t1 in
     let store = s .args .store .now in
-    let size = sizes s .name-size in
     let u = undamaged st store (may e .0) in
     record {
       used-fits = used-fits st store u;
-      name-fits = omega (arith, name-most st store (may e .0));
+      name-fits = name-fits st store (sizes s) (may e .0);
       named = name-ok st store u;
       labelled = may e .1;
       passed = tells-place st store (s .args .label .now) _ (judged (e .before .before .before)) (may e .0) _ (c .front-of .ensures);

@@ -1,7 +1,6 @@
 -- The first refusal that holds; else the lines of the keys past the starting label.
 use mathlib.Core.Bool.{false}
 use mathlib.Core.Path.{_≡_, sym, _∙_}
-use native.Mathlib.Omega.{arith}
 use Prim.Native.Nat.{_-_}
 use lib.ListN.{take, drop}
 use Rattle.calls.specs.declared.State.{State}
@@ -14,7 +13,7 @@ use Rattle.judging.specs.Judging.{Judges}
 use Rattle.judging.proofs.DamageTest.{tells-damage, tells-place}
 use Rattle.judging.proofs.Heads.{at-head}
 use Rattle.reads.specs.Reads.{pageStart}
-use Rattle.reads.proofs.ReadCalls.{name-most}
+use Rattle.reads.proofs.ReadCalls.{name-fits}
 use Rattle.reads.proofs.PageCalls.{may-page, no-page, page-readable, past-start, page-given}
 use borrow.Author.Needs.{needs}
 use Rattle.reads.proofs.page.Statement.{statement}
@@ -93,11 +92,10 @@ page-start-requires c κs =
     let s = begun (e .before) in
     let st = s .args .t1 in
     let store = s .args .store .now in
-    let size = sizes s .name-size in
     let u = undamaged st store (may e .0) in
     record {
       used-fits = used-fits st store u;
-      name-fits = omega (arith, name-most st store (may e .0));
+      name-fits = name-fits st store (sizes s) (may e .0);
       named = name-ok st store u;
       started = may e .1;
       passed = tells-place st store (s .args .start .now) _ (judged (e .before .before .before .before .before)) (may e .0) _ (c .front-of .ensures);

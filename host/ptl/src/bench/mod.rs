@@ -5,6 +5,7 @@ mod contexts;
 mod data;
 mod floor;
 mod intake;
+mod merges;
 mod messages;
 mod pages;
 mod pin;
@@ -18,6 +19,7 @@ mod tests;
 
 use crate::engine::Engine;
 use limits::STORE_MAX;
+use merges::Merged;
 use std::io::{self, Write};
 use table::Row;
 
@@ -88,14 +90,18 @@ fn tables(sides: Sides, plan: Plan, report: &mut dyn Write) -> Result<(), Stoppe
     let intake = intake_table(sides, plan, report)?;
     let singles = single_table(sides, plan, report)?;
     let pages = page_table(sides, plan, report)?;
+    let merges = merges::measure(sides, plan, report)?;
     table::growth(names, &singles, report)?;
     pages::whole_table(sides, plan, report)?;
     contexts::context_table(sides, plan, report)?;
+    merges::table(sides, &merges, report)?;
     table::worst(names, "taking in", &intake, report)?;
     let full = |row: &&Row| row.used >= 15 * 1024;
     let full: Vec<Row> = singles.iter().filter(full).cloned().collect();
     table::worst(names, "a call at 16 or 64 KiB", &full, report)?;
     table::worst(names, "a page of ten labels", &pages, report)?;
+    let merges: Vec<Row> = merges.iter().flat_map(Merged::rows).collect();
+    table::worst(names, "a merged read", &merges, report)?;
     writeln!(report, "Answers and bytes were equal in every run.")?;
     Ok(())
 }

@@ -25,19 +25,57 @@ pub fn start(label: usize, size: usize) -> Start {
     let mut random = Random::new(label as u64);
     let length = label_key_size(NAME.len(), label);
     let number = (size / length).min(STORE_MAX / length - 1);
-    let mut keys = BTreeSet::new();
+    let mut keys = Keys::new();
     for index in 0..number {
         let dot = Dot::from(((index % ACTORS) as u8 + 1, (index / ACTORS) as u64 + 1));
         keys.insert((label_of(&mut random, label), dot));
     }
-    let keys: Vec<(Vec<u8>, Dot)> = keys.into_iter().collect();
-    let middle = keys.get(keys.len() / 2).map(|(label, _)| label.clone());
-    let rack = Rack {
-        state: state(&keys, number * length),
-        store: store(&keys, length),
-    };
+    let base = (number / ACTORS) as u64 + 1;
+    let middle = keys.iter().nth(number / 2).map(|(label, _)| label.clone());
+    let rack = rack(&keys, length, |_| base, 1);
     let label = middle.unwrap_or_else(|| label_of(&mut random, label));
     Start { rack, label }
+}
+
+/// Two controllers with so many keys each, of labels of this length. Half of the keys both have; the
+/// dots of the others are of eight actors for either, and the other has seen none of them.
+pub fn alike(label: usize, number: usize) -> [Rack; 2] {
+    let mut random = Random::new(label as u64);
+    let length = label_key_size(NAME.len(), label);
+    let (common, actors) = (number / 2, ACTORS / 2);
+    let mut both = Keys::new();
+    for index in 0..common {
+        let dot = Dot::from(((index % ACTORS) as u8 + 1, (index / ACTORS) as u64 + 1));
+        both.insert((label_of(&mut random, label), dot));
+    }
+    let base = common.div_ceil(ACTORS) as u64;
+    let own = (number - common).div_ceil(actors) as u64;
+    [0, 1].map(|side| {
+        let mut keys = both.clone();
+        for index in 0..number - common {
+            let actor = side * actors + index % actors + 1;
+            let counter = base + (index / actors) as u64 + 1;
+            keys.insert((
+                label_of(&mut random, label),
+                Dot::from((actor as u8, counter)),
+            ));
+        }
+        let is_own = |actor: u8| usize::from(actor - 1) / actors == side;
+        let base = |actor: u8| base + own * u64::from(is_own(actor));
+        rack(&keys, length, base, 0)
+    })
+}
+
+/// Labels with dots, in the order of their keys.
+type Keys = BTreeSet<(Vec<u8>, Dot)>;
+
+/// A controller that has these keys of one length, and room for so many more. Of each actor it has
+/// seen as many events as its base says.
+fn rack(keys: &Keys, length: usize, base: impl Fn(u8) -> u64, room: usize) -> Rack {
+    Rack {
+        state: state(keys, keys.len() * length, base),
+        store: store(keys, (keys.len() + room) * length),
+    }
 }
 
 /// A label of this length; longer ones begin alike.
@@ -48,12 +86,12 @@ fn label_of(random: &mut Random, length: usize) -> Vec<u8> {
     label
 }
 
-fn state(keys: &[(Vec<u8>, Dot)], used: usize) -> State {
+fn state(keys: &Keys, used: usize, base: impl Fn(u8) -> u64) -> State {
     let mut state = State::zero();
     state.set_actor(Actor(1));
     state.set_name(NAME.as_bytes());
     for actor in 1..=ACTOR_MAX {
-        state.set_base(Actor(actor), (keys.len() / ACTORS) as u64 + 1);
+        state.set_base(Actor(actor), base(actor));
     }
     let removed = removed(keys);
     for (slot, dot) in removed.iter().enumerate() {
@@ -65,15 +103,16 @@ fn state(keys: &[(Vec<u8>, Dot)], used: usize) -> State {
 }
 
 /// Dots of stored keys, evenly spread over the store.
-fn removed(keys: &[(Vec<u8>, Dot)]) -> BTreeSet<Dot> {
+fn removed(keys: &Keys) -> BTreeSet<Dot> {
     let number = REMOVED.min(keys.len() / 2);
-    let keys = (0..number).map(|index| keys[index * keys.len() / number].1);
+    let dots: Vec<Dot> = keys.iter().map(|(_, dot)| *dot).collect();
+    let keys = (0..number).map(|index| dots[index * dots.len() / number]);
     keys.filter(|dot| CONTEXT.iter().all(|other| *dot != Dot::from(*other)))
         .collect()
 }
 
-/// The bytes of the keys and of one more.
-fn store(keys: &[(Vec<u8>, Dot)], length: usize) -> Vec<u8> {
+/// The bytes of the keys, and zeros after them.
+fn store(keys: &Keys, length: usize) -> Vec<u8> {
     let mut store = Vec::new();
     for (label, dot) in keys {
         let key = Key::Label {
@@ -83,6 +122,6 @@ fn store(keys: &[(Vec<u8>, Dot)], length: usize) -> Vec<u8> {
         };
         store.extend(write_key(&key).unwrap_or_default());
     }
-    store.resize((keys.len() + 1) * length, 0);
+    store.resize(length, 0);
     store
 }

@@ -130,11 +130,12 @@ fn passes(form: &dyn Engine) {
     assert_eq!(calls.map(starting), [21, 21, 16, 16, 16]);
     assert_eq!(starting("taking in "), 5);
     assert_eq!(["page front ", "page mid "].map(starting), [2; 2]);
+    assert_eq!(["merge   ", "merge fit "].map(starting), [2; 2]);
     assert_eq!(["    2     ", "   32     "].map(starting), [3; 2]);
     let name = form.name();
     let named =
         [format!(" /{name} "), format!("  {name} ")].map(|name| report.matches(&name).count());
-    assert_eq!(named, [4, 15], "{report}");
+    assert_eq!(named, [4, 17], "{report}");
     assert!(report.lines().all(|line| line.len() <= 120), "{report}");
 }
 
@@ -143,6 +144,7 @@ fn a_difference_is_found() {
     let faults = [
         (Fault::FreedByteKept, "difference: compact: store byte "),
         (Fault::ListingRunsOn, "difference: list: output byte "),
+        (Fault::MergeRunsOn, "difference: merge: output byte "),
     ];
     for (fault, what) in faults {
         let faulty = Faulty::new(PLAIN, fault);

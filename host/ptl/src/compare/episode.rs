@@ -8,11 +8,13 @@ use super::starts::start;
 use super::tally::Tally;
 use super::trial::{Act, Step, Trial, What};
 use super::{pools, Engines};
-use crate::script::{Command, Rack, Reply};
+use crate::script::{Both, Command, Rack, Reply};
 
 /// The controllers and the script so far, and what the whole run shares.
 pub struct Episode<'a> {
     trial: Trial<'a>,
+    /// How many controllers there are.
+    pub racks: usize,
     pub random: &'a mut Random,
     tally: &'a mut Tally,
     script: Vec<Step>,
@@ -22,6 +24,7 @@ impl<'a> Episode<'a> {
     pub fn new(engines: Engines<'a>, random: &'a mut Random, tally: &'a mut Tally) -> Episode<'a> {
         Episode {
             trial: Trial::new(engines),
+            racks: 1,
             random,
             tally,
             script: Vec::new(),
@@ -67,8 +70,10 @@ impl<'a> Episode<'a> {
         let step = Step { rack, act };
         let held = self.trial.held();
         let reply = self.trial.step(&step);
-        if let (Ok(Some(reply)), Act::Command(command)) = (&reply, &step.act) {
-            self.tally.count(command, reply);
+        match (&reply, &step.act) {
+            (Ok(Some(reply)), Act::Command(command)) => self.tally.count_command(command, reply),
+            (Ok(Some(reply)), Act::Both(both)) => self.tally.count(both, reply),
+            _ => (),
         }
         self.tally.held(self.trial.held() - held);
         self.script.push(step);
@@ -83,11 +88,50 @@ impl<'a> Episode<'a> {
         self.act(at, Act::Command(command))
     }
 
+    /// Reads a controller and any other, or itself, as one. Which of them is first is chance.
+    pub fn merge(&mut self, at: usize) -> Result<(), What> {
+        let other = self.random.below(self.racks);
+        let [first, second] = match self.random.chance(50) {
+            true => [at, other],
+            false => [other, at],
+        };
+        let merge = |out| Act::Both(Both::Merge { first, second, out });
+        let ample = self.rack(first).used() + self.rack(second).used();
+        let Some(merged) = self.listed(0, merge(ample))? else {
+            return Ok(());
+        };
+        let out = pools::out(self.random, merged.len());
+        self.listed(0, merge(out))?;
+        let mut as_one_lists = false;
+        for at in [first, second] {
+            let out = self.rack(at).used();
+            let list = Act::Command(Command::List { out });
+            as_one_lists |= self.listed(at, list)?.as_ref() == Some(&merged);
+        }
+        self.tally.merged(as_one_lists);
+        Ok(())
+    }
+
+    /// The bytes of a listing, merged or not; none if it is refused.
+    fn listed(&mut self, at: usize, act: Act) -> Result<Option<Vec<u8>>, What> {
+        let reply = self.act(at, act)?;
+        Ok(match reply {
+            Some(Reply::Listed(listed)) if listed.answer == 0 => {
+                Some(self.out()[..listed.written].to_vec())
+            }
+            _ => None,
+        })
+    }
+
     /// Damages a controller, calls it, and undoes the damage in most cases.
     pub fn damage(&mut self, at: usize) -> Result<(), What> {
         let damage = self.choose(at, Damage::of);
         self.acts(at, damage.acts)?;
         for _ in 0..self.random.between(1, 3) {
+            if self.random.chance(12) {
+                self.merge(at)?;
+                continue;
+            }
             let command = self.choose(at, |random, rack| moves::call(random, rack, true));
             self.act(at, Act::Command(command))?;
         }
@@ -120,19 +164,29 @@ impl<'a> Episode<'a> {
         self.started(keys, 20)
     }
 
+    /// Now and then beside another one, which mostly started alike.
     fn started(&mut self, keys: usize, most: usize) -> Result<(), What> {
         let acts = start(self.random, keys);
-        self.acts(0, acts)?;
+        self.acts(0, acts.clone())?;
+        if self.random.chance(25) {
+            self.racks = 2;
+            let acts = match self.random.chance(70) {
+                true => acts,
+                false => start(self.random, keys),
+            };
+            self.acts(1, acts)?;
+        }
         for _ in 0..self.random.between(8, most) {
             if self.is_over() {
                 return Ok(());
             }
-            self.wild_move(0)?;
+            let at = self.random.below(self.racks);
+            self.wild_move(at)?;
         }
         Ok(())
     }
 
-    /// A call with any arguments, damage, or a set-up.
+    /// A call with any arguments, damage, a set-up, or a merged read.
     pub fn wild_move(&mut self, at: usize) -> Result<(), What> {
         match self.random.below(100) {
             0..=9 => self.damage(at),
@@ -142,6 +196,7 @@ impl<'a> Episode<'a> {
                 let setup = Command::Setup { actor, name };
                 self.act(at, Act::Command(setup)).map(drop)
             }
+            11 | 12 => self.merge(at),
             _ => {
                 let command = self.choose(at, |random, rack| moves::call(random, rack, true));
                 self.give(at, command).map(drop)

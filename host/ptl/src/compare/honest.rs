@@ -33,6 +33,29 @@ impl Honest {
         !accepted || tell(&mut self.rule, command) && self.rule.has_one_label_a_dot()
     }
 
+    /// Holds a merged read of two controllers, accepted or refused for its output, to the rule over
+    /// all that either accepted. False if the rule does not speak of it.
+    pub fn check_merged(&self, other: &Honest, reply: &Reply, out: &[u8]) -> Result<bool, What> {
+        let both = self.rule.over_both(&other.rule);
+        let Reply::Listed(listed) = reply else {
+            return Ok(false);
+        };
+        let speaks = [0, OUTPUT_SHORT].contains(&listed.answer) && both.has_one_label_a_dot();
+        if !speaks {
+            return Ok(false);
+        }
+        let (bytes, labels) = both.listing();
+        let told = match bytes.len() <= out.len() {
+            true => (0, bytes.len(), labels as usize),
+            false => (OUTPUT_SHORT, 0, 0),
+        };
+        let counts = (listed.answer, listed.written, listed.labels);
+        match counts == told && bytes.starts_with(&out[..listed.written]) {
+            true => Ok(true),
+            false => Err("not what the rule of demand 3 says of both"),
+        }
+    }
+
     /// Holds an accepted listing, lookup or compaction to the rule, and a page that is accepted or
     /// refused for its output; the clock with it. False for any other call.
     pub fn check(

@@ -22,6 +22,7 @@ impl Episode<'_> {
             true => RACKS,
             false => self.random.between(2, 5),
         };
+        self.racks = racks;
         let mut air = Air {
             racks,
             sent: Vec::new(),
@@ -67,10 +68,11 @@ impl Episode<'_> {
                 self.send(at, command, air)
             }
             32..=73 => self.deliver(at, air),
-            74..=89 => {
+            74..=87 => {
                 let command = self.choose(at, moves::looking);
                 self.give(at, command).map(drop)
             }
+            88 | 89 => self.merge(at),
             90..=93 => {
                 let message = self.choose(at, |random, rack| messages::made(random, rack, wild));
                 self.give(at, Command::Take { message }).map(drop)

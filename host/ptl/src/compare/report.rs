@@ -5,7 +5,7 @@ use super::tally::Tally;
 use super::trial::{Act, Step, Trial, What, FILL};
 use super::Engines;
 use crate::engine::Engine;
-use crate::script::{line_to, Command, Poke, Rack, Tool, Worded};
+use crate::script::{line_to, Both, Command, Poke, Rack, Tool, Worded};
 use std::io::{self, IsTerminal, Write};
 use std::time::{Duration, Instant};
 
@@ -86,6 +86,7 @@ fn step_lines(step: &Step) -> Vec<String> {
     let poke = |poke| line(step.rack, &Tool::Poke { poke });
     match &step.act {
         Act::Command(command) => vec![line(step.rack, command)],
+        Act::Both(both) => vec![line(0, both)],
         Act::Tool(tool) => vec![line(step.rack, tool)],
         Act::Keys(keys) => {
             let bytes = keys.concat();
@@ -117,12 +118,10 @@ fn said(engines: Engines, script: &[Step], report: &mut dyn Write) -> io::Result
     for step in before {
         let _ = trial.step(step);
     }
-    let Act::Command(command) = &last.act else {
+    let sides = [0, 1].map(|side| Said::of(engines[side], &mut trial, side, last));
+    let [Some(product), Some(other)] = &sides else {
         return Ok(());
     };
-    let racks = [0, 1].map(|side| trial.side(last.rack, side).clone());
-    let sides = [0, 1].map(|side| Said::of(engines[side], racks[side].clone(), command));
-    let [product, other] = &sides;
     let name = format!("{}:", engines[1].name());
     writeln!(report, "{:<10} {}", "product:", product.line)?;
     writeln!(report, "{name:<10} {}", other.line)?;
@@ -144,9 +143,30 @@ struct Said {
 }
 
 impl Said {
-    fn of(engine: &dyn Engine, mut rack: Rack, command: &Command) -> Said {
+    /// None if the step is no call.
+    fn of(engine: &dyn Engine, trial: &mut Trial, side: usize, step: &Step) -> Option<Said> {
+        match &step.act {
+            Act::Command(command) => {
+                let rack = trial.side(step.rack, side).clone();
+                Some(Said::of_command(engine, rack, command))
+            }
+            Act::Both(both) => Some(Said::of_both(engine, trial, side, both)),
+            _ => None,
+        }
+    }
+
+    fn of_command(engine: &dyn Engine, mut rack: Rack, command: &Command) -> Said {
         let mut out = vec![FILL; command.out()];
         let line = engine.run(&mut rack, command, &mut out).line(command, &out);
+        Said { line, rack, out }
+    }
+
+    fn of_both(engine: &dyn Engine, trial: &mut Trial, side: usize, both: &Both) -> Said {
+        let Both::Merge { first, second, .. } = *both;
+        let [rack, other] = [first, second].map(|at| trial.side(at, side).clone());
+        let mut out = vec![FILL; both.out()];
+        let reply = engine.merge(&rack, &other, &mut out);
+        let line = reply.line_of_both(both, &out);
         Said { line, rack, out }
     }
 

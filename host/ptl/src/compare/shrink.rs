@@ -3,12 +3,15 @@
 
 use super::trial::{Act, Step, Trial, What};
 use super::Engines;
-use crate::script::Command;
-use limits::DOT_SIZE;
+use crate::script::{Both, Command};
+use limits::{DOT_SIZE, STORE_MAX};
 use std::time::{Duration, Instant};
 
 /// How long to go on trying.
 const PATIENCE: Duration = Duration::from_secs(60);
+
+/// Room for every merged read: an entry is shorter than its keys.
+const AMPLE: usize = 2 * STORE_MAX;
 
 /// A script that ends in a difference, and what it is.
 pub struct Shown {
@@ -43,14 +46,22 @@ pub fn shrink(engines: Engines, mut best: Shown) -> Shown {
 /// Numbers the controllers from 0, as they come.
 fn renumber(engines: Engines, best: Shown) -> Shown {
     let mut known = Vec::new();
-    let mut script = best.script.clone();
-    for step in &mut script {
-        let number = known.iter().position(|rack| *rack == step.rack);
-        let number = number.unwrap_or_else(|| {
-            known.push(step.rack);
+    let mut number = |rack: &mut usize| {
+        let number = known.iter().position(|known| known == rack);
+        *rack = number.unwrap_or_else(|| {
+            known.push(*rack);
             known.len() - 1
         });
-        step.rack = number;
+    };
+    let mut script = best.script.clone();
+    for step in &mut script {
+        match &mut step.act {
+            Act::Both(Both::Merge { first, second, .. }) => {
+                number(first);
+                number(second);
+            }
+            _ => number(&mut step.rack),
+        }
     }
     shown(engines, script).unwrap_or(best)
 }
@@ -95,7 +106,8 @@ fn drop_parts(engines: Engines, mut best: Shown, end: Instant) -> (Shown, bool) 
     (best, changed)
 }
 
-/// The same act with less in it: fewer keys, fewer dots, or a dot less in its context.
+/// The same act with less in it: fewer keys, fewer dots, or a dot less in its context; and a merged
+/// read with room for all, so that labels can go that only filled an output.
 fn smaller(act: &Act) -> Vec<Act> {
     match act {
         Act::Keys(keys) => fewer(keys).into_iter().map(Act::Keys).collect(),
@@ -116,7 +128,11 @@ fn smaller(act: &Act) -> Vec<Act> {
             let less = |context| Command::Remove { context, out: *out };
             fewer_dots(context).map(less).map(Act::Command).collect()
         }
-        Act::Command(_) | Act::Tool(_) => Vec::new(),
+        Act::Both(Both::Merge { first, second, out }) if *out != AMPLE => {
+            let (first, second, out) = (*first, *second, AMPLE);
+            vec![Act::Both(Both::Merge { first, second, out })]
+        }
+        Act::Command(_) | Act::Both(_) | Act::Tool(_) => Vec::new(),
     }
 }
 

@@ -1,11 +1,13 @@
-//! How often each answer of each call was met, either end of a page, and labels that do not print.
+//! How often each answer of each call was met, either end of a page, labels that do not print, and
+//! merged reads that are no controller's own listing.
 
 use super::pools::is_unprinted;
-use crate::script::{Command, Reply, Worded};
+use crate::script::{Both, Command, Reply, Worded};
 use limits::ANSWERS;
+use std::collections::BTreeMap;
 
 /// Each call by its word, with the answers it can give.
-const CALLS: &[(&str, &[u8])] = Command::TABLE;
+const CALLS: [&[(&str, &[u8])]; 2] = [Command::TABLE, Both::TABLE];
 
 /// What a page says of those that follow it, by whether more do.
 const ENDS: [&str; 2] = ["ended", "more"];
@@ -15,17 +17,22 @@ const UNPRINTED: [&str; 2] = [
     "add of a label that does not print",
     "lookup that finds a label that does not print",
 ];
+/// Whether one of the two controllers lists alone what a merged read lists, by whether it does.
+const ALONE: [&str; 2] = ["as neither lists", "as one lists"];
 
 /// The counts of a run, and how many calls it is to have.
 pub struct Tally {
     wanted: u64,
     done: u64,
     held: u64,
-    met: [[u64; ANSWERS]; CALLS.len()],
+    /// By the call's word.
+    met: BTreeMap<&'static str, [u64; ANSWERS]>,
     /// Accepted pages that none follows, and those that more follow.
     pages: [u64; 2],
     /// Of labels that do not print: own adds answered 5, and lookups that found keys.
     unprinted: [u64; 2],
+    /// Accepted merged reads that neither controller lists alone, and those that one does.
+    merges: [u64; 2],
 }
 
 impl Tally {
@@ -34,24 +41,31 @@ impl Tally {
             wanted,
             done: 0,
             held: 0,
-            met: [[0; ANSWERS]; CALLS.len()],
+            met: BTreeMap::new(),
             pages: [0; 2],
             unprinted: [0; 2],
+            merges: [0; 2],
         }
     }
 
     /// Counts one call.
-    pub fn count(&mut self, command: &Command, reply: &Reply) {
+    pub fn count(&mut self, call: &impl Worded, reply: &Reply) {
         self.done += 1;
         let answer = usize::from(reply.answer());
-        if let Some(count) = self.met[command.row()].get_mut(answer) {
+        let met = self.met.entry(call.word()).or_default();
+        if let Some(count) = met.get_mut(answer) {
             *count += 1;
         }
         if let (0, Reply::Paged(paged)) = (answer, reply) {
             self.pages[usize::from(paged.more)] += 1;
         }
+    }
+
+    /// Counts one call on one controller.
+    pub fn count_command(&mut self, command: &Command, reply: &Reply) {
+        self.count(command, reply);
         match (command, reply) {
-            (Command::Add { label, .. }, _) if answer == 5 && is_unprinted(label) => {
+            (Command::Add { label, .. }, _) if reply.answer() == 5 && is_unprinted(label) => {
                 self.unprinted[0] += 1;
             }
             (Command::Lookup { label }, Reply::Looked(looked)) if is_unprinted(label) => {
@@ -59,6 +73,11 @@ impl Tally {
             }
             _ => (),
         }
+    }
+
+    /// Counts an accepted merged read.
+    pub fn merged(&mut self, as_one_lists: bool) {
+        self.merges[usize::from(as_one_lists)] += 1;
     }
 
     /// Counts calls that were held to the rule of demand 3.
@@ -75,17 +94,24 @@ impl Tally {
         self.wanted.saturating_sub(self.done)
     }
 
-    /// The answers that a call can give and did not, the ends that no page had, and what did not
-    /// happen to labels that do not print.
+    /// How often each answer of a call was met.
+    fn answers(&self, call: &str) -> [u64; ANSWERS] {
+        self.met.get(call).copied().unwrap_or_default()
+    }
+
+    /// The answers that a call can give and did not, the ends that no page had, what did not happen
+    /// to labels that do not print, and what no merged read was.
     pub fn unmet(&self) -> Vec<String> {
         let mut unmet = Vec::new();
-        for ((call, answers), met) in CALLS.iter().zip(&self.met) {
+        for (call, answers) in CALLS.into_iter().flatten() {
+            let met = self.answers(call);
             let missing = answers.iter().filter(|a| met[usize::from(**a)] == 0);
             unmet.extend(missing.map(|answer| format!("{call} {answer}")));
         }
-        let ends = ENDS.iter().zip(&self.pages);
-        let missing = ends.filter(|(_, count)| **count == 0);
-        unmet.extend(missing.map(|(end, _)| format!("page {end}")));
+        for (call, kinds, counts) in [("page", ENDS, self.pages), ("merge", ALONE, self.merges)] {
+            let missing = kinds.iter().zip(counts).filter(|(_, count)| *count == 0);
+            unmet.extend(missing.map(|(kind, _)| format!("{call} {kind}")));
+        }
         let unprinted = UNPRINTED.iter().zip(&self.unprinted);
         let missing = unprinted.filter(|(_, count)| **count == 0);
         unmet.extend(missing.map(|(what, _)| what.to_string()));
@@ -96,7 +122,8 @@ impl Tally {
     pub fn lines(&self) -> Vec<String> {
         let numbers: String = (0..ANSWERS).map(|number| format!("{number:>9}")).collect();
         let mut lines = vec![format!("{:<12}{numbers}", "answer")];
-        for ((call, answers), met) in CALLS.iter().zip(&self.met) {
+        for (call, answers) in CALLS.into_iter().flatten() {
+            let met = self.answers(call);
             let cell = |(number, count): (usize, &u64)| match answers.contains(&(number as u8)) {
                 true => format!("{count:>9}"),
                 false => format!("{:>9}", "-"),
@@ -109,6 +136,10 @@ impl Tally {
         let [refused, found] = self.unprinted;
         lines.push(format!(
             "labels that do not print: {refused} own adds refused, {found} lookups that find one"
+        ));
+        let [neither, one] = self.merges;
+        lines.push(format!(
+            "accepted merged reads compared with both listings: {neither} as neither lists, {one} as one lists"
         ));
         lines.push(format!("held to the rule of demand 3: {}", self.held));
         lines

@@ -8,7 +8,7 @@ use super::trial::Act;
 use super::{compare, verdict, Engines, FULL_RUN};
 use crate::console::console;
 use crate::engine::{Engine, Fault, Faulty, Second, FASTEST, PLAIN, TUNED};
-use crate::script::{line_to, parse, Command, Line, Reply};
+use crate::script::{line_to, parse, Both, Command, Line, Reply};
 use limits::TOMBSTONE_DOTS_MAX;
 use ptl::calls::{Looked, Paged, Span, Wrote};
 
@@ -60,9 +60,12 @@ fn shows(fault: Fault, what: &str, most: usize) {
 
 #[test]
 fn a_fault_in_the_answer_is_shown() {
-    shows(Fault::DeadLabelListed, "answers or counts differ", 10);
+    // An own add that a later context counts past stays in the script.
+    shows(Fault::DeadLabelListed, "answers or counts differ", 14);
     shows(Fault::OtherAnswer, "answers or counts differ", 2);
     shows(Fault::PageEndsEarly, "answers or counts differ", 10);
+    shows(Fault::MergeOfOne, "answers or counts differ", 10);
+    shows(Fault::MergeForgetsRemoves, "answers or counts differ", 12);
 }
 
 #[test]
@@ -95,6 +98,7 @@ fn a_fault_in_the_store_is_shown() {
 fn a_fault_in_the_output_is_shown() {
     shows(Fault::ListingRunsOn, "outputs differ", 10);
     shows(Fault::PageRunsOn, "outputs differ", 10);
+    shows(Fault::MergeRunsOn, "outputs differ", 10);
 }
 
 #[test]
@@ -103,6 +107,7 @@ fn a_fault_at_a_boundary_is_shown() {
     shows(Fault::StoreOneShort, "answers or counts differ", 20);
     shows(Fault::OnePastPrints, "answers or counts differ", 2);
     shows(Fault::UnprintedNotFound, "answers or counts differ", 2);
+    shows(Fault::MergeOneShort, "answers or counts differ", 10);
     // All slots but one, their number, a base, a set-up and the remove.
     let most = TOMBSTONE_DOTS_MAX + 12;
     shows(Fault::TombstoneOneShort, "answers or counts differ", most);
@@ -131,6 +136,33 @@ fn a_fault_that_both_sides_have_breaks_the_rule() {
             "{report}"
         );
     }
+    for fault in [
+        Fault::MergeOfOne,
+        Fault::MergeForgetsRemoves,
+        Fault::MergeOneShort,
+    ] {
+        let faulty = Faulty::new(&Second, fault);
+        let report = found([&faulty, &faulty]);
+        assert!(
+            report.contains("not what the rule of demand 3 says of both"),
+            "{report}"
+        );
+    }
+}
+
+/// The script of a difference in a merged read names its controllers from 0 on, and the report has
+/// what either side says.
+#[test]
+fn a_merged_read_is_reported_by_its_own_line() {
+    let faulty = Faulty::new(&Second, Fault::MergeOfOne);
+    let report = found([&faulty, &Second]);
+    let last = script_of(&report).last().copied().unwrap_or_default();
+    let line = |start: &str| report.lines().any(|line| line.starts_with(start));
+    assert!(last.starts_with("merge @0 @1 "), "{report}");
+    assert!(
+        line("product:   merge ") && line("reference: merge "),
+        "{report}"
+    );
 }
 
 #[test]
@@ -204,7 +236,7 @@ fn a_tally_tells_what_happens_to_labels_that_do_not_print() {
             context,
             out,
         };
-        tally.count(&add, &Reply::Wrote(Wrote { answer, written: 0 }));
+        tally.count_command(&add, &Reply::Wrote(Wrote { answer, written: 0 }));
         unmet(&tally, "add of")
     };
     assert!(add(b"B7", 5) && add(b"B\0\x7f", 5) && add(b"B\x7f", 1));
@@ -218,10 +250,27 @@ fn a_tally_tells_what_happens_to_labels_that_do_not_print() {
             found,
             listed,
         };
-        tally.count(&Command::Lookup { label }, &Reply::Looked(looked));
+        tally.count_command(&Command::Lookup { label }, &Reply::Looked(looked));
         unmet(&tally, "lookup that finds")
     };
     assert!(lookup(b"B7", 19) && lookup(b"B\x1f", 0) && !lookup(b"B\x1f", 19));
+}
+
+#[test]
+fn a_tally_tells_which_merged_reads_were_not_met() {
+    let mut tally = Tally::new(10);
+    let unmet = |tally: &Tally, what: &str| tally.unmet().iter().any(|unmet| unmet == what);
+    let lists = ["merge as neither lists", "merge as one lists"];
+    assert_eq!(lists.map(|what| unmet(&tally, what)), [true, true]);
+    tally.merged(false);
+    assert_eq!(lists.map(|what| unmet(&tally, what)), [false, true]);
+    tally.merged(true);
+    assert_eq!(lists.map(|what| unmet(&tally, what)), [false, false]);
+    let (first, second, out) = (0, 1, 0);
+    let merge = Both::Merge { first, second, out };
+    assert!(unmet(&tally, "merge 7"));
+    tally.count(&merge, &Reply::Answered(7));
+    assert!(!unmet(&tally, "merge 7"));
 }
 
 #[test]
@@ -255,6 +304,7 @@ fn lines_are_read_as_they_are_written() {
         for step in episode.into_script() {
             let (line, asked) = match step.act {
                 Act::Command(command) => (line_to(step.rack, &command), Line::Command(command)),
+                Act::Both(both) => (line_to(step.rack, &both), Line::Both(both)),
                 Act::Tool(tool) => (line_to(step.rack, &tool), Line::Tool(tool)),
                 _ => continue,
             };

@@ -2,7 +2,7 @@
 
 use super::honest::{leaves, Honest};
 use super::Engines;
-use crate::script::{Command, Rack, Reply, Tool, Worded, RACKS};
+use crate::script::{Both, Command, Rack, Reply, Tool, Worded, RACKS};
 use ptl::Dot;
 
 /// What lent outputs hold before a call.
@@ -18,11 +18,13 @@ pub struct Step {
     pub act: Act,
 }
 
-/// A command; a tool; or keys put at the store's front as its used part; or dots put in the first slots of
-/// the tombstone, with their number.
+/// A command; a call that reads two controllers, whichever the step is of; a tool; or keys put at the
+/// store's front as its used part; or dots put in the first slots of the tombstone, with their
+/// number.
 #[derive(Clone, PartialEq, Eq, Debug)]
 pub enum Act {
     Command(Command),
+    Both(Both),
     Tool(Tool),
     Keys(Vec<Vec<u8>>),
     Dots(Vec<Dot>),
@@ -67,7 +69,7 @@ impl<'a> Trial<'a> {
         &self.outs[side]
     }
 
-    /// How many listings, pages, lookups and compactions were held to the rule.
+    /// How many listings, merged or not, pages, lookups and compactions were held to the rule.
     pub fn held(&self) -> u64 {
         self.held
     }
@@ -81,27 +83,21 @@ impl<'a> Trial<'a> {
 
     /// Takes a step on both sides and compares all that it left. The reply, if it was a call.
     pub fn step(&mut self, step: &Step) -> Result<Option<Reply>, What> {
-        let pair = self.pair(step.rack);
         match &step.act {
             Act::Command(command) => return self.command(step.rack, command).map(Some),
-            Act::Tool(tool) => pair.obey(tool),
-            Act::Keys(keys) => pair.put_keys(keys),
-            Act::Dots(dots) => pair.put_dots(dots),
+            Act::Both(both) => return self.both(both).map(Some),
+            Act::Tool(tool) => self.pair(step.rack).obey(tool),
+            Act::Keys(keys) => self.pair(step.rack).put_keys(keys),
+            Act::Dots(dots) => self.pair(step.rack).put_dots(dots),
         }
         Ok(None)
     }
 
     fn command(&mut self, at: usize, command: &Command) -> Result<Reply, What> {
-        let [reply, other] = self.replies(at, command);
-        if reply != other {
-            return Err("answers or counts differ");
-        }
-        if self.outs[0] != self.outs[1] {
-            return Err("outputs differ");
-        }
-        if !command.can_give(reply.answer()) {
-            return Err("the call cannot give this answer");
-        }
+        let engines = self.engines;
+        let reply = self.agreed(command, |trial, side, out| {
+            engines[side].run(&mut trial.pair(at).sides[side], command, out)
+        })?;
         let out = std::mem::take(&mut self.outs[0]);
         let done = self.pair(at).compare(command, &reply, &out);
         self.outs[0] = out;
@@ -109,19 +105,56 @@ impl<'a> Trial<'a> {
         Ok(reply)
     }
 
-    /// Runs a command on both sides.
-    fn replies(&mut self, at: usize, command: &Command) -> [Reply; 2] {
-        let mut outs = std::mem::take(&mut self.outs);
+    /// A call that reads two controllers: neither may change.
+    fn both(&mut self, both: &Both) -> Result<Reply, What> {
+        let Both::Merge { first, second, .. } = *both;
         let engines = self.engines;
-        let pair = self.pair(at);
-        let replies = [0, 1].map(|side| {
+        for at in [first, second] {
+            self.pair(at);
+        }
+        let reply = self.agreed(both, |trial, side, out| {
+            let [first, second] = trial.two(first, second);
+            engines[side].merge(&first.sides[side], &second.sides[side], out)
+        })?;
+        let [first, second] = self.two(first, second);
+        first.is_alike()?;
+        second.is_alike()?;
+        if let (Some(one), Some(two)) = (&first.honest, &second.honest) {
+            let held = one.check_merged(two, &reply, &self.outs[0])?;
+            self.held += u64::from(held);
+        }
+        Ok(reply)
+    }
+
+    /// Two controllers that are there.
+    fn two(&self, first: usize, second: usize) -> [&Pair; 2] {
+        [first, second].map(|at| self.pairs[at].as_ref().expect("is there"))
+    }
+
+    /// Runs a call on both sides. Its reply, if the two agree on it and on their outputs.
+    fn agreed(
+        &mut self,
+        asked: &impl Worded,
+        run: impl Fn(&mut Self, usize, &mut [u8]) -> Reply,
+    ) -> Result<Reply, What> {
+        let mut outs = std::mem::take(&mut self.outs);
+        let [reply, other] = [0, 1].map(|side| {
             let out = &mut outs[side];
             out.clear();
-            out.resize(command.out(), FILL);
-            engines[side].run(&mut pair.sides[side], command, out)
+            out.resize(asked.out(), FILL);
+            run(self, side, out)
         });
         self.outs = outs;
-        replies
+        if reply != other {
+            return Err("answers or counts differ");
+        }
+        if self.outs[0] != self.outs[1] {
+            return Err("outputs differ");
+        }
+        match asked.can_give(reply.answer()) {
+            true => Ok(reply),
+            false => Err("the call cannot give this answer"),
+        }
     }
 }
 
@@ -160,14 +193,20 @@ impl Pair {
 
     /// Compares the two sides, then holds them to the rule; true if there was something to hold.
     fn compare(&mut self, command: &Command, reply: &Reply, out: &[u8]) -> Result<bool, What> {
+        self.is_alike()?;
+        self.hold_to_rule(command, reply, out)
+    }
+
+    /// Compares the two sides.
+    fn is_alike(&self) -> Result<(), What> {
         let [left, right] = &self.sides;
         if left.state != right.state {
             return Err("states differ");
         }
-        if left.store != right.store {
-            return Err("stores differ");
+        match left.store == right.store {
+            true => Ok(()),
+            false => Err("stores differ"),
         }
-        self.hold_to_rule(command, reply, out)
     }
 
     /// Tells the rule of a command that both sides agree on, and holds what was read to it.

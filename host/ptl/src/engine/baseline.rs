@@ -42,6 +42,11 @@ impl<F: Calls> Engine for Baseline<F> {
         }
     }
 
+    fn merge(&self, first: &Rack, second: &Rack, out: &mut [u8]) -> Reply {
+        let [one, two] = [first.state.block(), second.state.block()];
+        listed(F::merge(one, &first.store, two, &second.store, out))
+    }
+
     fn take_in(&self, rack: &mut Rack, message: &[u8]) -> u8 {
         F::take_in(rack.state.block_mut(), &mut rack.store, message)
     }

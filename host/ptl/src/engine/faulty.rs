@@ -30,6 +30,14 @@ pub enum Fault {
     OnePastPrints,
     /// A label that does not print is looked up as one that breaks its rule.
     UnprintedNotFound,
+    /// A merged read lists what the first controller lists.
+    MergeOfOne,
+    /// A merged read does not heed the removes that the second controller has not compacted yet.
+    MergeForgetsRemoves,
+    /// A merged read that fills its output exactly is refused.
+    MergeOneShort,
+    /// A byte is written after a merged read.
+    MergeRunsOn,
     /// A shift of the window by its whole width leaves it as it was.
     WholeShiftLost,
     /// A message with bytes left over is read.
@@ -142,6 +150,29 @@ impl<'a> Faulty<'a> {
         }
     }
 
+    /// Merged read.
+    fn merged(&self, first: &Rack, second: &Rack, out: &mut [u8]) -> Reply {
+        if self.has(Fault::MergeOfOne) {
+            return self.sound.merge(first, first, out);
+        }
+        let mut second = second.clone();
+        if self.has(Fault::MergeForgetsRemoves) {
+            forget_removes(&mut second.state);
+        }
+        let room = match self.has(Fault::MergeOneShort) {
+            true => out.len().saturating_sub(1),
+            false => out.len(),
+        };
+        let reply = self.sound.merge(first, &second, &mut out[..room]);
+        match reply {
+            Reply::Listed(listed) if self.has(Fault::MergeRunsOn) && listed.labels > 0 => {
+                run_on(listed.written, out);
+            }
+            _ => (),
+        }
+        reply
+    }
+
     /// What is wrong with a reply of a call that changes nothing.
     fn spoil(&self, reply: &mut Reply, out: &mut [u8]) {
         match reply {
@@ -251,6 +282,14 @@ fn run_on(written: usize, out: &mut [u8]) {
     }
 }
 
+/// Empties the tombstone.
+fn forget_removes(state: &mut State) {
+    for slot in 0..TOMBSTONE_DOTS_MAX {
+        state.set_slot(slot, Dot::from((0, 0)));
+    }
+    state.set_count(state.count().saturating_sub(TOMBSTONE_DOTS_MAX as u64));
+}
+
 /// Puts back the windows that a call has shifted by their whole width.
 fn keep_shifted_windows(before: &State, state: &mut State) {
     for actor in (1..=ACTOR_MAX).map(Actor) {
@@ -270,6 +309,10 @@ fn refused(answer: Answer) -> Reply {
 impl Engine for Faulty<'_> {
     fn name(&self) -> &'static str {
         "faulty"
+    }
+
+    fn merge(&self, first: &Rack, second: &Rack, out: &mut [u8]) -> Reply {
+        self.merged(first, second, out)
     }
 
     fn run(&self, rack: &mut Rack, command: &Command, out: &mut [u8]) -> Reply {

@@ -23,6 +23,9 @@ pub trait Engine {
     /// Runs a command. `out` is the lent output, of the length that the command says.
     fn run(&self, rack: &mut Rack, command: &Command, out: &mut [u8]) -> Reply;
 
+    /// Merged read of two controllers.
+    fn merge(&self, first: &Rack, second: &Rack, out: &mut [u8]) -> Reply;
+
     /// Taking in, for the benchmark: what is timed there has no command around it.
     fn take_in(&self, rack: &mut Rack, message: &[u8]) -> u8 {
         let message = message.to_vec();

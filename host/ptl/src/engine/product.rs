@@ -32,6 +32,17 @@ impl Engine for Product {
         }
     }
 
+    fn merge(&self, first: &Rack, second: &Rack, out: &mut [u8]) -> Reply {
+        let (state, store) = (&first.state, &first.store);
+        Reply::Listed(calls::merge(
+            state,
+            store,
+            &second.state,
+            &second.store,
+            out,
+        ))
+    }
+
     fn take_in(&self, rack: &mut Rack, message: &[u8]) -> u8 {
         calls::take_in(&mut rack.state, &mut rack.store, message)
     }

@@ -50,6 +50,17 @@ impl Engine for Second {
             Command::ReadMessage { bytes } => Reply::Message(message(bytes)),
         }
     }
+
+    fn merge(&self, first: &Rack, second: &Rack, out: &mut [u8]) -> Reply {
+        let [one, two] = [first, second].map(|rack| of_block(&rack.state));
+        listed(reference::merge(
+            &one,
+            &first.store,
+            &two,
+            &second.store,
+            out,
+        ))
+    }
 }
 
 fn write_key(key: &KeyToWrite, out: &mut [u8]) -> (u8, u64) {

@@ -1,7 +1,7 @@
 //! The fields of a line by their kinds: each is read from its one form or refused, and written in
 //! that form.
 
-use super::{Reason, Why, OUT_MAX};
+use super::{Reason, Why, OUT_MAX, RACKS};
 use limits::DOT_SIZE;
 use ptl::{dots_of, Dot};
 use std::fmt::Write;
@@ -138,6 +138,22 @@ impl Field for Out {
     }
 }
 
+/// A controller: `@K`.
+pub struct At;
+
+impl Field for At {
+    type Value = usize;
+
+    fn read(fields: &mut Fields) -> Result<usize, Reason> {
+        let digits = fields.next()?.strip_prefix(b"@");
+        rack(digits.ok_or(NO_RACK)?)
+    }
+
+    fn write(rack: &usize) -> Written {
+        Ok(format!("@{rack}"))
+    }
+}
+
 /// TEXT: printing bytes for themselves, `%XX` for any byte, `-` for none.
 pub struct Text;
 
@@ -208,7 +224,7 @@ impl Field for KeyType {
     }
 }
 
-pub fn number(field: &[u8]) -> Result<u64, Reason> {
+fn number(field: &[u8]) -> Result<u64, Reason> {
     let digits = field.iter().all(u8::is_ascii_digit);
     let leading_zero = field.len() > 1 && field[0] == b'0';
     if field.is_empty() || !digits || leading_zero {
@@ -216,6 +232,16 @@ pub fn number(field: &[u8]) -> Result<u64, Reason> {
     }
     let text = std::str::from_utf8(field).map_err(|_| "not a number")?;
     text.parse().map_err(|_| "number too large")
+}
+
+const NO_RACK: Reason = "controllers are 0 to 15";
+
+/// The controller of this number.
+pub fn rack(digits: &[u8]) -> Result<usize, Reason> {
+    match number(digits)? {
+        number if number < RACKS as u64 => Ok(number as usize),
+        _ => Err(NO_RACK),
+    }
 }
 
 fn byte(field: &[u8]) -> Result<u8, Reason> {

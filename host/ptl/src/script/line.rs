@@ -1,13 +1,14 @@
 //! From a line to the controller it speaks to and what it asks for, and back.
 
-use super::fields::{number, words, Fields, Written};
-use super::table::{Command, Tool, Worded};
-use super::{Reason, Why, RACKS};
+use super::fields::{rack, words, Fields, Written};
+use super::table::{Both, Command, Tool, Worded};
+use super::{Reason, Why};
 
 /// What a line asks for.
 #[derive(Clone, PartialEq, Eq, Debug)]
 pub enum Line {
     Command(Command),
+    Both(Both),
     Tool(Tool),
 }
 
@@ -15,34 +16,30 @@ pub enum Line {
 pub fn parse(line: &[u8]) -> Result<(usize, Line), Why> {
     let mut words = words(line)?;
     let mut word = words.next();
-    let mut rack = 0;
-    if let Some(number) = word.and_then(|word| word.strip_prefix(b"@")) {
-        rack = rack_of(number)?;
+    let mut at = 0;
+    if let Some(digits) = word.and_then(|word| word.strip_prefix(b"@")) {
+        at = rack(digits)?;
         word = words.next();
     }
     let word = word.ok_or("missing command")?;
     let mut fields = Fields::new(words);
     let asked = read(word, &mut fields).map_err(|reason| fields.why(reason))?;
-    Ok((rack, asked.ok_or("unknown command")?))
+    Ok((at, asked.ok_or("unknown command")?))
 }
 
 /// What a word with the fields after it asks for; none if the tables lack the word.
 fn read(word: &[u8], fields: &mut Fields) -> Result<Option<Line>, Reason> {
-    let asked = match Command::read(word, fields)? {
-        Some(command) => Some(Line::Command(command)),
-        None => Tool::read(word, fields)?.map(Line::Tool),
-    };
+    let mut asked = Command::read(word, fields)?.map(Line::Command);
+    if asked.is_none() {
+        asked = Both::read(word, fields)?.map(Line::Both);
+    }
+    if asked.is_none() {
+        asked = Tool::read(word, fields)?.map(Line::Tool);
+    }
     if asked.is_some() {
         fields.end()?;
     }
     Ok(asked)
-}
-
-fn rack_of(digits: &[u8]) -> Result<usize, Reason> {
-    match number(digits)? {
-        number if number < RACKS as u64 => Ok(number as usize),
-        _ => Err("controllers are 0 to 15"),
-    }
 }
 
 /// The line to a controller; an error is a line that the console does not read, with fields in

@@ -14,7 +14,7 @@ pub use line::{line_to, parse, Line};
 pub use poke::Poke;
 pub use rack::Rack;
 pub use reply::Reply;
-pub use table::{Command, Tool, Worded};
+pub use table::{Both, Command, Tool, Worded};
 
 use limits::ACTORS;
 use std::fmt;

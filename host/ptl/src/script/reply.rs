@@ -1,7 +1,7 @@
 //! What a command gave, and its line.
 
 use super::fields::{dots, hex, text, Field, KeyType};
-use super::table::{Command, Worded};
+use super::table::{Both, Command, Worded};
 use ptl::calls::{KeyRead, Listed, Looked, MessageRead, Paged, Wrote};
 use ptl::{dots_of, Dot};
 
@@ -32,24 +32,37 @@ impl Reply {
 
     /// The output line; `out` is the output that the command was lent.
     pub fn line(&self, command: &Command, out: &[u8]) -> String {
-        let given = match (self, command) {
-            (Reply::Wrote(wrote), _) => format!(" {}", front(out, wrote.written)),
-            (Reply::Listed(listed), _) => {
-                format!(" {} {}", listed.labels, front(out, listed.written))
+        match command {
+            Command::ReadKey { bytes } | Command::ReadMessage { bytes } => {
+                self.worded(command, bytes, out)
             }
-            (Reply::Paged(paged), _) => {
+            _ => self.worded(command, &[], out),
+        }
+    }
+
+    /// The output line of a call that read two controllers.
+    pub fn line_of_both(&self, both: &Both, out: &[u8]) -> String {
+        self.worded(both, &[], out)
+    }
+
+    /// The output line of what was asked, of bytes that were read or into an output.
+    fn worded(&self, asked: &impl Worded, bytes: &[u8], out: &[u8]) -> String {
+        let given = match self {
+            Reply::Answered(_) => String::new(),
+            Reply::Wrote(wrote) => format!(" {}", front(out, wrote.written)),
+            Reply::Listed(listed) => format!(" {} {}", listed.labels, front(out, listed.written)),
+            Reply::Paged(paged) => {
                 let written = front(out, paged.written);
                 format!(" {} {} {written}", paged.labels, follow(paged))
             }
-            (Reply::Looked(looked), _) => {
+            Reply::Looked(looked) => {
                 let yes = if looked.listed { "yes" } else { "no" };
                 format!(" {yes} {} {}", looked.found.at, looked.found.len)
             }
-            (Reply::Key(read), Command::ReadKey { bytes }) => key(read, bytes),
-            (Reply::Message(read), Command::ReadMessage { bytes }) => message(read, bytes),
-            _ => String::new(),
+            Reply::Key(read) => key(read, bytes),
+            Reply::Message(read) => message(read, bytes),
         };
-        format!("{} {}{given}", command.word(), self.answer())
+        format!("{} {}{given}", asked.word(), self.answer())
     }
 }
 

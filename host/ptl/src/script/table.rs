@@ -1,7 +1,7 @@
 //! Every command of the console, once: its word, its fields and the answers that it can give. An
 //! output is lent to a command that has a field `Out`.
 
-use super::fields::{Byte, Dots, Field, Fields, Hex, Out, Size, Text, Written};
+use super::fields::{At, Byte, Dots, Field, Fields, Hex, Out, Size, Text, Written};
 use super::{KeyToWrite, Poke, Reason, BUFFER_MAX};
 
 /// What a line says by a word and fields: one row of a table.
@@ -20,6 +20,12 @@ pub trait Worded: Sized {
 
     /// Reads the fields after this word; none if the table lacks the word.
     fn read(word: &[u8], fields: &mut Fields) -> Result<Option<Self>, Reason>;
+
+    /// Whether this answer can be given to it.
+    fn can_give(&self, answer: u8) -> bool {
+        let mut rows = Self::TABLE.iter();
+        rows.any(|(word, answers)| *word == self.word() && answers.contains(&answer))
+    }
 }
 
 /// An enum of the rows of a table: variant, word, fields of their kinds, answers.
@@ -64,8 +70,8 @@ macro_rules! table {
 }
 
 table! {
-    /// "Commands of the base" and of the requests: the calls with their arguments. `out` is the
-    /// length of the lent output; a context is nine bytes a dot.
+    /// "Commands of the base" and of the requests: the calls of one controller with their
+    /// arguments. `out` is the length of the lent output; a context is nine bytes a dot.
     Command
     Setup "setup" { actor: Byte, name: Text } => [0, 5];
     Add "add" { label: Text, context: Dots, out: Out } => [0, 1, 5, 6, 8, 9, 10, 11, 12, 13];
@@ -81,23 +87,16 @@ table! {
 }
 
 table! {
+    /// Calls that read two controllers, whichever the line speaks to.
+    Both
+    Merge "merge" { first: At, second: At, out: Out } => [0, 1, 7, 13];
+}
+
+table! {
     /// "Commands that look and that damage": no engine is asked.
     Tool
     State "state" => [];
     Store "store" => [];
     Buffer "buffer" { length: Size<BUFFER_MAX>, fill: Byte } => [];
     Poke "poke" { poke: Poke } => [];
-}
-
-impl Command {
-    /// Whether the call can give this answer.
-    pub fn can_give(&self, answer: u8) -> bool {
-        Command::TABLE[self.row()].1.contains(&answer)
-    }
-
-    /// The place of the call in the table.
-    pub fn row(&self) -> usize {
-        let row = Command::TABLE.iter().position(|row| row.0 == self.word());
-        row.expect("every word is in the table")
-    }
 }

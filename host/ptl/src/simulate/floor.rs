@@ -8,6 +8,7 @@ use super::radio::Radio;
 use super::station::Station;
 use super::tally::Tally;
 use super::terminal::Terminal;
+use super::together::Together;
 use super::weather::Weather;
 use crate::engine::Engine;
 use crate::random::Random;
@@ -54,7 +55,9 @@ pub struct Floor<'a> {
     pub terminal: Terminal,
     /// Calls that met a full tombstone.
     pub blocked: Blocked,
-    phase: &'static str,
+    /// What a person asks two boxes at once with.
+    pub together: Together,
+    pub phase: &'static str,
     seed: u64,
     faults: Vec<String>,
     disagreements: usize,
@@ -82,6 +85,7 @@ impl<'a> Floor<'a> {
             after_move: AfterMove::default(),
             terminal: Terminal::new(seed),
             blocked: Blocked::default(),
+            together: Together::new(seed),
             phase: "set-up",
             seed,
             faults: Vec::new(),
@@ -134,7 +138,8 @@ impl<'a> Floor<'a> {
         self.disagreements
     }
 
-    /// One tick: some messages are sent again, what arrives is taken in, and a page may be read.
+    /// One tick: some messages are sent again, what arrives is taken in, a page may be read, and two
+    /// boxes may be asked at once.
     pub fn pass(&mut self, again: usize) {
         self.tick += 1;
         for _ in 0..again {
@@ -154,6 +159,7 @@ impl<'a> Floor<'a> {
             self.act(at, &Command::Compact);
         }
         self.use_terminal();
+        self.ask_two();
     }
 
     pub fn is_on(&self, at: usize) -> bool {

@@ -6,7 +6,7 @@ use super::goods::{part_and_bin, WATCHED};
 use super::station::Station;
 use crate::engine::Engine;
 use crate::script::RACKS;
-use ptl::{Actor, Entry};
+use ptl::{Actor, Entry, Listing};
 use reference::{Dot, Rule};
 use std::collections::BTreeSet;
 
@@ -25,12 +25,14 @@ impl Floor<'_> {
         }
     }
 
-    /// Holds every box's listing and lamps to its rule, and its pages to its listing.
+    /// Holds every box's listing and lamps to its rule, its pages to its listing, and what it lists
+    /// together with the next to the rule of both.
     pub fn hold_all(&mut self) {
         for at in 0..RACKS {
             self.hold(at);
             self.hold_lamps(at);
             self.hold_pages(at);
+            self.hold_together(at);
         }
     }
 
@@ -71,7 +73,12 @@ impl Floor<'_> {
 
 /// What a box lists and should not, or the other way round; none if it lists what the rule says.
 fn difference(engine: &dyn Engine, station: &Station, rule: &Rule) -> Option<String> {
-    let Some(listing) = station.listing(engine) else {
+    differs(station.listing(engine), rule)
+}
+
+/// The same of a listing, if there is one.
+pub fn differs(listing: Option<Listing>, rule: &Rule) -> Option<String> {
+    let Some(listing) = listing else {
         return Some("refuses to list".into());
     };
     let (bytes, labels) = rule.listing();

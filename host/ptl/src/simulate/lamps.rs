@@ -2,13 +2,16 @@
 
 use super::floor::Floor;
 use super::goods::{label, part_and_bin, Bin, SPRING, SPRING_BIN, WATCHED};
+use super::together::SPRING_BOX;
 use crate::script::RACKS;
 
 /// What was seen right after the racks moved.
 #[derive(Clone, Default)]
 pub struct AfterMove {
-    /// The bins that each box lit for the gas springs.
+    /// The bins that each box lit for the gas springs, and those that a terminal showed which asked
+    /// the box and the gas springs' own.
     springs: Vec<String>,
+    together: Vec<String>,
     /// Boxes that lit a bin which the move had taken away, and those that lit the gas springs'.
     lying: usize,
     lying_springs: usize,
@@ -20,6 +23,7 @@ impl Floor<'_> {
         let springs = label(SPRING, SPRING_BIN);
         let seen = AfterMove {
             springs: (0..RACKS).map(|at| self.lit(at, SPRING)).collect(),
+            together: (0..RACKS).map(|at| self.shown_with_springs(at)).collect(),
             lying: self.lighting(&self.gone(&self.moved)),
             lying_springs: self.lighting(&self.gone([&springs])),
         };
@@ -33,17 +37,28 @@ impl Floor<'_> {
         bins_text(labels.map(Vec::as_slice), part)
     }
 
+    /// The bins of the gas springs on a terminal that asks a box and theirs.
+    fn shown_with_springs(&self, at: usize) -> String {
+        let entries = self.entries_with_springs(at);
+        bins_text(entries.iter().map(|entry| entry.label.0.as_slice()), SPRING)
+    }
+
     /// A line for each box: what it lights in the end for the parts that are watched, and whether
     /// its listing is that of the rules.
     pub fn lamp_table(&self) -> Vec<String> {
-        let mut head = vec!["box".to_string(), format!("{SPRING} after the move")];
+        let asked = format!("asked with box {}", SPRING_BOX + 1);
+        let mut head = vec!["box".to_string(), format!("{SPRING} after the move"), asked];
         head.extend(WATCHED.map(|part| part.to_string()));
         head.extend(["labels", "own rule", "rule of all"].map(String::from));
         let mut rows = vec![head];
         let agreeing = self.agreeing();
         for (at, station) in self.stations.iter().enumerate() {
-            let after = self.after_move.springs.get(at);
-            let mut row = vec![(at + 1).to_string(), after.cloned().unwrap_or_default()];
+            let AfterMove {
+                springs, together, ..
+            } = &self.after_move;
+            let after = [springs, together].map(|seen| seen.get(at).cloned().unwrap_or_default());
+            let mut row = vec![(at + 1).to_string()];
+            row.extend(after);
             row.extend(WATCHED.map(|part| self.lit(at, part)));
             row.push(station.entries(self.engine).len().to_string());
             row.push(word(self.follows_its_rule(at)));
@@ -58,7 +73,7 @@ impl Floor<'_> {
     fn rule_row(&self) -> Vec<String> {
         let live = self.all.live_pairs();
         let lit = |part| bins_text(live.iter().map(|(label, _)| label.as_slice()), part);
-        let mut row = vec!["rule".to_string(), String::new()];
+        let mut row = vec!["rule".to_string(), String::new(), String::new()];
         row.extend(WATCHED.map(lit));
         row.push(self.all.listing().1.to_string());
         row

@@ -17,6 +17,7 @@ mod tally;
 mod terminal;
 #[cfg(test)]
 mod tests;
+mod together;
 mod weather;
 mod work;
 
@@ -126,6 +127,9 @@ fn foot(floor: &Floor, report: &mut dyn Write) -> io::Result<()> {
         listings,
         changed,
     } = floor.terminal.counts;
+    let two = floor.together.counts;
+    let (reads, reread, news) = (two.reads, two.short, two.news);
+    let example = floor.together.example.as_deref().unwrap_or("none");
     write!(
         report,
         "{LEGEND}
@@ -135,13 +139,18 @@ Pages of a few labels that a hand terminal read while the boxes worked, each hel
 the box had accepted by then: {pages}; refused for want of room and read again with more: {short}. Listings
 read to their end: {listings}, of them {changed} of boxes that changed between the pages. After each phase the
 pages of each box, read with nothing between them, were held to its listing.
+Listings of two boxes asked at once while they worked, each held to the rule of what either had accepted
+by then: {reads}; refused for want of room and read again with more: {reread}. Of them {news} were what neither
+box listed alone. For one: {example}.
 Returns of many boxes, all in {RETURNS_BIN}, were cleared by the goods-in desk in one remove: the longest context
 of the day has {longest} dots of {CONTEXT_DOTS_MAX}.
 Calls that met a tombstone too full for their dots: {once}; that met it again after the compaction
 that followed, which leaves the tombstone empty: {again}.
 
 Bins that the lamps of each box light at the end of the day, and whether its listing is that of the
-rule of what it accepted and that of one rule of all messages, both computed apart from the boxes:
+rule of what it accepted and that of one rule of all messages, both computed apart from the boxes. The
+first columns are the bins of the gas springs right after the move: by each box alone, and on a terminal
+that asked it and their own box at once:
 
 "
     )?;

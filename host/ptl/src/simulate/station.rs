@@ -149,14 +149,16 @@ impl Station {
     pub fn listing(&self, engine: &dyn Engine) -> Option<Listing> {
         let out = self.memory.used();
         let mut bytes = vec![0; out];
-        match self.ask(engine, &Command::List { out }, &mut bytes) {
-            Reply::Listed(listed) if listed.answer == 0 => {
-                bytes.truncate(listed.written);
-                let labels = listed.labels;
-                Some(Listing { bytes, labels })
-            }
-            _ => None,
-        }
+        let reply = self.ask(engine, &Command::List { out }, &mut bytes);
+        listing_of(reply, bytes).ok()
+    }
+
+    /// What the box and another list as one, in an output of this length; or the answer that
+    /// refuses it.
+    pub fn merged(&self, engine: &dyn Engine, other: &Station, out: usize) -> Result<Listing, u8> {
+        let mut bytes = vec![0; out];
+        let reply = engine.merge(&self.memory, &other.memory, &mut bytes);
+        listing_of(reply, bytes)
     }
 
     /// A page of what the box lists, in an output of this length; or the answer that refuses it.
@@ -194,5 +196,17 @@ impl Station {
             Reply::Looked(looked) => looked.answer == 0 && looked.listed,
             _ => false,
         }
+    }
+}
+
+/// The listing in an output; or the answer that refuses it.
+fn listing_of(reply: Reply, mut bytes: Vec<u8>) -> Result<Listing, u8> {
+    match reply {
+        Reply::Listed(listed) if listed.answer == 0 => {
+            bytes.truncate(listed.written);
+            let labels = listed.labels;
+            Ok(Listing { bytes, labels })
+        }
+        _ => Err(reply.answer()),
     }
 }

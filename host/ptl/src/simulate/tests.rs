@@ -11,7 +11,7 @@ use crate::engine::{Engine, Fault, Faulty, Product};
 use crate::random::Random;
 use crate::script::{Command, RACKS};
 use limits::MESSAGE_MAX;
-use ptl::{dots_to_bytes, Dot};
+use ptl::{dots_to_bytes, Dot, Listing};
 use std::collections::BTreeSet;
 
 /// A run: its exit status, and what was printed.
@@ -46,9 +46,10 @@ fn told(fault: Fault) -> String {
 
 #[test]
 fn a_removed_dot_that_is_dropped_is_told() {
-    let line = told(Fault::RemovedDotDropped);
-    let (_, what) = line.split_once(": lists ").expect("what is listed");
-    assert!(what.contains("and should not, by the rule of what it accepted"));
+    let lines = all_told(Fault::RemovedDotDropped);
+    let what = "and should not, by the rule of what it accepted";
+    let told = |line: &String| line.contains(": lists ") && line.contains(what);
+    assert!(lines.iter().any(told), "{lines:?}");
 }
 
 #[test]
@@ -115,6 +116,59 @@ fn pages_that_do_not_join_to_the_listing_are_told() {
         let what = faults.iter().filter_map(|line| line.rsplit(": ").next());
         assert_eq!(what.collect::<Vec<_>>(), told);
     }
+}
+
+#[test]
+fn a_merged_read_that_is_not_the_rules_is_told() {
+    for fault in [Fault::MergeOfOne, Fault::MergeForgetsRemoves] {
+        let line = told(fault);
+        let what = line.split(": ").last().unwrap_or_default();
+        assert!(what.starts_with("with box "), "{line}");
+        assert!(
+            what.ends_with(", by the rule of what either accepted"),
+            "{line}"
+        );
+    }
+}
+
+/// A box takes in a message that another wrote.
+fn hear(floor: &mut Floor, at: usize, number: usize) {
+    let message = floor.posted[number].bytes.clone();
+    let said = floor.act(at, &Command::Take { message });
+    assert_eq!(said.map(|said| said.answer), Some(0));
+}
+
+/// The labels of a listing.
+fn labels(listing: Listing) -> Vec<String> {
+    let entries = listing.entries().into_iter();
+    entries
+        .map(|entry| String::from_utf8(entry.label.0).expect("ASCII"))
+        .collect()
+}
+
+/// Boxes 3 and 5 have heard nothing of each other; box 4 has heard of the label of box 3, and moved
+/// it.
+#[test]
+fn two_boxes_show_together_what_neither_lists_alone() {
+    let mut floor = Floor::new(&Product, 1);
+    assert!(floor.own(3, &add("BOLT@B1", &[])));
+    assert!(floor.own(5, &add("NUT@B2", &[])));
+    hear(&mut floor, 4, 0);
+    assert!(floor.own(4, &add("BOLT@C1", &[Dot::from((4, 1))])));
+    let merged = |one: usize, two: usize, room| {
+        let (one, two) = (&floor.stations[one], &floor.stations[two]);
+        one.merged(&Product, two, room)
+    };
+    assert_eq!(
+        merged(3, 5, 99).map(labels),
+        Ok(vec!["BOLT@B1".into(), "NUT@B2".into()])
+    );
+    assert_eq!(merged(3, 4, 99).map(labels), Ok(vec!["BOLT@C1".into()]));
+    assert_eq!(merged(4, 3, 19).map(labels), Ok(vec!["BOLT@C1".into()]));
+    assert_eq!(merged(4, 3, 18), Err(13));
+    floor.hold_together(3);
+    floor.hold_together(4);
+    assert_eq!(floor.new_faults(), Vec::<String>::new());
 }
 
 #[test]

@@ -35,13 +35,14 @@ use world::World;
 type Block = fn(&mut Recording);
 
 /// The fixed blocks, and what each is about.
-const BLOCKS: [(&str, Block); 13] = [
+const BLOCKS: [(&str, Block); 14] = [
     ("Set-ups", edges::set_ups),
     ("Lines that break the form", edges::broken_lines),
     ("Own calls and lookups", edges::own_calls),
     ("Labels that print", edges::labels),
     ("A store with labels that do not print", edges::older_store),
     ("Pages", edges::pages),
+    ("Merged reads", edges::merges),
     ("Windows", edges::windows),
     ("Largest counters", edges::largest_counters),
     ("Stores", edges::stores),

@@ -130,6 +130,29 @@ impl Bench {
         (done.answer, paged)
     }
 
+    /// Merged read with another in an output of this length: answer, bytes, number of labels.
+    pub fn merge_into(&self, other: &Bench, room: usize) -> (u8, Vec<u8>, u64) {
+        let mut out = vec![FILL; room];
+        let done = merge(
+            &self.state,
+            &self.store,
+            &other.state,
+            &other.store,
+            &mut out,
+        );
+        assert!(done.answer == 0 || (done.written, done.labels) == (0, 0));
+        let bytes = written(&out, done.written);
+        (done.answer, bytes, done.labels)
+    }
+
+    /// The same with an ample output. It must not matter which of the two is first.
+    pub fn merge(&self, other: &Bench) -> (u8, Vec<u8>, u64) {
+        let room = self.store.len() + other.store.len() + 9;
+        let merged = self.merge_into(other, room);
+        assert_eq!(merged, other.merge_into(self, room));
+        merged
+    }
+
     pub fn lookup(&self, label: &[u8]) -> Looked {
         lookup(&self.state, &self.store, label)
     }

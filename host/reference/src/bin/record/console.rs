@@ -1,12 +1,10 @@
 //! The console of this program: one line in, one line out.
 
 use crate::controller::Controller;
-use crate::fields::{about, byte, dots, hex, key_type, name, number, row, size, text};
-use crate::fields::{dots_of, hex_of, text_of, Fields, Why};
+use crate::fields::{about, at, byte, dots, hex, key_type, name, number, row, size, text};
+use crate::fields::{controller, dots_of, hex_of, text_of, Fields, Why, CONTROLLERS};
 use reference::*;
 
-/// The number of controllers.
-const CONTROLLERS: u64 = 16;
 /// The longest line, lent output and lent store.
 const LINE: usize = 262_144;
 const OUT: usize = 1_048_576;
@@ -44,15 +42,18 @@ impl Console {
         if words.contains(&&b""[..]) {
             return Err("space at an end or two spaces".to_string());
         }
-        let (at, command) = match words[0].strip_prefix(b"@") {
-            Some(digits) => (number(digits)?, &words[1..]),
+        let (spoken_to, command) = match words[0].strip_prefix(b"@") {
+            Some(digits) => (controller(digits)?, &words[1..]),
             None => (0, &words[..]),
         };
-        if at >= CONTROLLERS {
-            return Err("controllers are 0 to 15".to_string());
-        }
         let (word, given) = command.split_first().ok_or("missing command")?;
-        let (controller, given) = (&mut self.controllers[at as usize], Fields(given));
+        let given = Fields(given);
+        if *word == b"merge" {
+            let (first, second) = (given.field(1, at)?, given.field(2, at)?);
+            let out = given.last(3, size::<OUT>)?;
+            return Ok(self.controllers[first].merge(&self.controllers[second], out));
+        }
+        let controller = &mut self.controllers[spoken_to];
         match *word {
             b"poke" => poke(controller, &given),
             b"key" => key_line(&given),

@@ -69,6 +69,20 @@ impl Controller {
         format!("page {} {} {follow} {written}", done.answer, done.labels)
     }
 
+    /// This controller and another, read as one.
+    pub fn merge(&self, other: &Controller, room: usize) -> String {
+        let mut out = vec![FILL; room];
+        let done = merge(
+            &self.state,
+            &self.store,
+            &other.state,
+            &other.store,
+            &mut out,
+        );
+        let listed = front(&out, done.written);
+        format!("merge {} {} {listed}", done.answer, done.labels)
+    }
+
     pub fn lookup(&self, label: &[u8]) -> String {
         let done = lookup(&self.state, &self.store, label);
         let listed = if done.listed { "yes" } else { "no" };

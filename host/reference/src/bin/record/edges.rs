@@ -9,7 +9,7 @@ use reference::{DAMAGED, STORE_FULL};
 const MOST: u64 = CONTEXT_DOTS_MAX as u64;
 
 /// Lines that break the form: no command, a field too few, no number.
-const BROKEN: [&str; 16] = [
+const BROKEN: [&str; 19] = [
     "x",
     "Compact",
     "setups 1 R1",
@@ -18,6 +18,7 @@ const BROKEN: [&str; 16] = [
     "remove -",
     "take",
     "page -",
+    "merge @0 @1",
     "lookup",
     "buffer 64",
     "setup x R1",
@@ -25,6 +26,8 @@ const BROKEN: [&str; 16] = [
     "remove - -1",
     "list 007",
     "page B7 x",
+    "merge 0 @1 64",
+    "merge @0 @16 64",
     "buffer 6F 0",
 ];
 
@@ -294,6 +297,69 @@ fn between_pages(node: &mut Node) {
     node.page(b"", 0);
 }
 
+/// Two controllers that have not heard the same: dots of both, of one that the other has seen or not,
+/// under one label and under several; removes on either side, before and after compactions.
+pub fn merges(recording: &mut Recording) {
+    let labels: [&[u8]; 5] = [b"A", b"B7", b"B7", b"C", &[255; 32]];
+    let (mut sent, mut heard) = (Vec::new(), Vec::new());
+    let mut node = recording.start(0, 1, b"R1", 256);
+    for label in labels {
+        sent.push(node.add(label, b"").written);
+    }
+    let mut other = recording.start(1, 2, b"R1", 512);
+    other.merge(0, AMPLE);
+    for label in &labels[1..] {
+        heard.push(other.add(label, b"").written);
+    }
+    other.take(&sent[1]);
+    other.take(&sent[4]);
+    merge_outputs(recording);
+    recording.node(0).take(&heard[2]);
+    let steps: [(usize, &[(u8, u64)]); 4] = [
+        (1, &[(1, 2), (2, 1)]),
+        (0, &[(2, 3)]),
+        (1, &[(1, 3), (1, 4)]),
+        (0, &[(1, 1), (1, 5)]),
+    ];
+    for (at, context) in steps {
+        recording.node(at).remove(&dots(context));
+        merge_both_ways(recording, AMPLE);
+        recording.node(at).compact();
+        merge_both_ways(recording, AMPLE);
+    }
+    one_dot_two_labels(recording);
+}
+
+/// Outputs that end where the listing does and next to it; sets of other names; a controller with
+/// itself.
+fn merge_outputs(recording: &mut Recording) {
+    let length = recording.node(0).merged_length(1);
+    for out in [0, length - 1, length, length + 1] {
+        merge_both_ways(recording, out);
+    }
+    recording.node(0).merge(0, AMPLE);
+    for name in [&b"R"[..], b"R2", b"R12", b"R1"] {
+        recording.start(2, 3, name, 64).merge(0, 0);
+        recording.node(1).merge(2, AMPLE);
+        recording.node(2).merge(2, 0);
+    }
+}
+
+fn merge_both_ways(recording: &mut Recording, out: usize) {
+    recording.node(0).merge(1, out);
+    recording.node(1).merge(0, out);
+}
+
+/// Controllers of one actor, which gave one dot to two labels.
+fn one_dot_two_labels(recording: &mut Recording) {
+    for (at, label) in [(2, b"B7"), (3, b"B8")] {
+        recording.start(at, 7, b"R1", 64).add(label, b"");
+    }
+    recording.node(2).merge(3, AMPLE);
+    recording.node(3).add(b"B7", b"");
+    recording.node(2).merge(3, AMPLE);
+}
+
 /// Windows of 64 events: their ends, a window that becomes full, the largest counter.
 pub fn windows(recording: &mut Recording) {
     let mut node = recording.start(3, 2, b"R1", 256);
@@ -434,6 +500,8 @@ pub fn keys(recording: &mut Recording) {
 
 /// Every call on a controller that is damaged in one place.
 pub fn damage(recording: &mut Recording) {
+    recording.start(0, 2, b"R1", 64).add(b"B7", b"");
+    recording.start(2, 3, b"R2", 64);
     for poke in DAMAGE {
         let mut node = recording.start(1, 1, b"R1", 64);
         node.add(b"B7", b"");
@@ -447,6 +515,8 @@ pub fn damage(recording: &mut Recording) {
         node.page(b"", AMPLE);
         node.page(b"\x00", 0);
         node.lookup(b"B7");
+        node.merge(0, AMPLE);
+        node.say("merge @2 @1 0");
         let last = node.say("compact");
         assert_eq!(last.answer, Some(DAMAGED), "{poke}");
     }

@@ -68,6 +68,24 @@ pub fn size<const MOST: usize>(field: &[u8]) -> Result<usize, Reason> {
     Ok(number as usize)
 }
 
+/// The number of controllers.
+pub const CONTROLLERS: usize = 16;
+const NO_CONTROLLER: Reason = "controllers are 0 to 15";
+
+/// The number of a controller.
+pub fn controller(digits: &[u8]) -> Result<usize, Reason> {
+    let number = number(digits)?;
+    if number >= CONTROLLERS as u64 {
+        return Err(NO_CONTROLLER);
+    }
+    Ok(number as usize)
+}
+
+/// A controller as a field: `@K`.
+pub fn at(field: &[u8]) -> Result<usize, Reason> {
+    controller(field.strip_prefix(b"@").ok_or(NO_CONTROLLER)?)
+}
+
 /// A NUM from 0 to 255.
 pub fn byte(field: &[u8]) -> Result<u8, Reason> {
     u8::try_from(number(field)?).map_err(|_| "number over 255")

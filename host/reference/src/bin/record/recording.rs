@@ -2,7 +2,7 @@
 
 use crate::console::Console;
 use crate::fields::{dots_of, hex, hex_of, text_of};
-use reference::{list, DONE};
+use reference::{list, merge, DONE};
 use std::collections::BTreeMap;
 
 /// An output in which everything has room.
@@ -10,13 +10,14 @@ pub const AMPLE: usize = 1024;
 /// The controllers that are spoken to.
 pub const CONTROLLERS: usize = 4;
 /// The commands that are calls.
-pub const CALLS: [&str; 11] = [
+pub const CALLS: [&str; 12] = [
     "setup",
     "add",
     "remove",
     "take",
     "list",
     "page",
+    "merge",
     "lookup",
     "compact",
     "key",
@@ -188,6 +189,12 @@ impl Node<'_> {
         self.say(&format!("page {} {out}", text_of(start)));
     }
 
+    /// This controller and another, or itself, read as one.
+    pub fn merge(&mut self, other: usize, out: usize) {
+        let at = self.at;
+        self.say(&format!("merge @{at} @{other} {out}"));
+    }
+
     pub fn lookup(&mut self, label: &[u8]) {
         self.say(&format!("lookup {}", text_of(label)));
     }
@@ -218,6 +225,15 @@ impl Node<'_> {
         let done = list(self.state(), store, &mut out);
         out.truncate(done.written as usize);
         out
+    }
+
+    /// The bytes that a merged read takes, not recorded; 0 if it is refused.
+    pub fn merged_length(&self, other: usize) -> usize {
+        let controllers = &self.recording.console.controllers;
+        let [one, two] = [self.at, other].map(|at| &controllers[at]);
+        let mut out = vec![0; one.store.len() + two.store.len()];
+        let done = merge(&one.state, &one.store, &two.state, &two.store, &mut out);
+        done.written as usize
     }
 
     /// The dots listed, in nine bytes each.

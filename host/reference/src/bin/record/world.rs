@@ -72,7 +72,8 @@ impl World<'_> {
             34..=38 => self.node(at).compact(),
             39..=41 => self.list(random, at),
             42..=45 => self.page(random, at),
-            46..=50 => self.lookup(random, at),
+            46..=47 => self.lookup(random, at),
+            48..=50 => self.merge(random, at),
             51..=53 => self.lend(random, at),
             54..=55 => self.key(random, at),
             56..=62 if self.wild => self.stray(random, at),
@@ -171,6 +172,14 @@ impl World<'_> {
             self.out(random, needed)
         };
         self.node(at).page(start, out);
+    }
+
+    /// A merged read with any controller, itself too, in an output of about what the two list.
+    fn merge(&mut self, random: &mut Xorshift, at: usize) {
+        let other = random.below(CONTROLLERS as u64) as usize;
+        let needed = self.node(at).merged_length(other);
+        let out = self.out(random, needed);
+        self.node(at).merge(other, out);
     }
 
     fn lookup(&mut self, random: &mut Xorshift, at: usize) {

@@ -1,9 +1,9 @@
 -- Equal bytes begin alike and are as long.
-use Rattle.intake.proofs.TakeIn.{other-set-is}
+use Rattle.steps.proofs.SameName.{other-set-is}
 use Rattle.judging.proofs.Parts.{front-size}
 use borrow.Author.Needs.{needs}
-use Rattle.intake.proofs.other_set.Statement.{statement}
-use Rattle.intake.proofs.other_set.Tie as tie
+use Rattle.steps.proofs.other_set.Statement.{statement}
+use Rattle.steps.proofs.other_set.Tie as tie
 
 slice-aggregate-starts-with : tie.Need-slice-aggregate-starts-with
 slice-aggregate-starts-with c = let s = c .before .before .before in front-size (s .args .name .now) (s .args .len) (s .pre)
