@@ -73,11 +73,17 @@ pub fn list(state: calls::State, store: &[u8], out: &mut [u8]) -> calls::Listed
             labels: 0,
         };
     }
-    let tombstone = state.tombstone.bytes;
     let n = state.name.len;
     let used = state.used;
     let count = state.tombstone.count;
-    listed(put_used(n, &store[..used], &tombstone, count, true, out))
+    listed(put_used(
+        n,
+        &store[..used],
+        &state.tombstone.bytes,
+        count,
+        true,
+        out,
+    ))
 }
 
 // ---- page

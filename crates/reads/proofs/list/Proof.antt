@@ -13,8 +13,8 @@ use Rattle.reads.proofs.list.Statement.{statement}
 use Rattle.reads.proofs.list.Tie as tie
 
 -- the arrays of the state have their sizes
-sizes : (s : tie.Start) → Sized (s .args .state)
-sizes s = let g = s .good .0 .1 .1 in sized (s .args .state) (g .0 .1 .1 .0 .1 .0 .1) (g .1 .0 .1 .1 .0 .1 .0 .1) (g .1 .1 .0 .1 .1 .0 .1 .0 .1)
+sizes : (s : tie.Start) → Sized (s .args .t1)
+sizes s = let g = s .good .0 .1 .1 in sized (s .args .t1) (g .0 .1 .1 .0 .1 .0 .1) (g .1 .0 .1 .1 .0 .1 .0 .1) (g .1 .1 .0 .1 .1 .0 .1 .0 .1)
 
 abbrev start : tie.After-is-damaged → tie.Start
 start c = c .before .before .before
@@ -23,26 +23,23 @@ is-damaged-requires : tie.Need-is-damaged-requires
 is-damaged-requires c κs = search needs
 
 returns : tie.Need-returns
-returns c = let s = start (c .before) in damaged-listing (s .args .state) (s .args .store .now) _ (sym (c .before .is-damaged .ensures) ∙ c .if1 .taken)
+returns c = let s = start (c .before) in damaged-listing (s .args .t1) (s .args .store .now) _ (sym (c .before .is-damaged .ensures) ∙ c .if1 .taken)
 
 -- an undamaged store's used part
-may : (e : tie.Else1) → let s = start (e .before) in damaged (s .args .state) (s .args .store .now) ≡ false
+may : (e : tie.Else1) → let s = start (e .before) in damaged (s .args .t1) (s .args .store .now) ≡ false
 may e = sym (e .before .is-damaged .ensures) ∙ e .if1 .left
 
 slice-aggregate-put-used : tie.Need-slice-aggregate-put-used
 slice-aggregate-put-used c =
-    let e = c .before .before in
+    let e = c .before in
     let s = start (e .before) in
-    front-size (s .args .store .now) (s .args .state .used) (used-fits (s .args .state) (s .args .store .now) (undamaged (s .args .state) (s .args .store .now) (may e)))
-
-slice-aggregate-put-used-2 : tie.Need-slice-aggregate-put-used-2
-slice-aggregate-put-used-2 c = search needs
+    front-size (s .args .store .now) (s .args .t1 .used) (used-fits (s .args .t1) (s .args .store .now) (undamaged (s .args .t1) (s .args .store .now) (may e)))
 
 put-used-requires : tie.Need-put-used-requires
 put-used-requires c κs =
-    let e = c .before .before .before .before in
+    let e = c .before .before .before .before .before in
     let s = start (e .before) in
-    readable (s .args .state) (s .args .store .now) (usedPart (s .args .state) (s .args .store .now)) (sizes s) (may e) (stored-keys (s .args .state) (s .args .store .now) (sizes s) (may e)) (omega arith)
+    readable (s .args .t1) (s .args .store .now) (usedPart (s .args .t1) (s .args .store .now)) (sizes s) (may e) (stored-keys (s .args .t1) (s .args .store .now) (sizes s) (may e)) (omega arith)
 
 listed-requires : tie.Need-listed-requires
 listed-requires c κs = search needs
@@ -53,9 +50,9 @@ same-length c = search needs
 returns-2 : tie.Need-returns-2
 returns-2 c =
     let put = c .before .before .before in
-    let e = put .before .before .before .before .before in
+    let e = put .before .before .before .before .before .before in
     let s = start (e .before) in
-    undamaged-listing (s .args .state) (s .args .store .now) _ _ (put .put-used .result) _ (sizes s) (may e) (c .listed .ensures) (put .put-used .ensures)
+    undamaged-listing (s .args .t1) (s .args .store .now) _ _ (put .put-used .result) _ (sizes s) (may e) (c .listed .ensures) (put .put-used .ensures)
 
 pub list-spec : {M : Type 1} → statement M
 list-spec =
@@ -64,7 +61,6 @@ list-spec =
     is-damaged-requires
     returns
     slice-aggregate-put-used
-    slice-aggregate-put-used-2
     put-used-requires
     listed-requires
     same-length
