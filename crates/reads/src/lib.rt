@@ -148,9 +148,15 @@ pub fn page(state: calls::State, store: &[u8], start: &[u8], out: &mut [u8]) -> 
     let n = state.name.len;
     let used = state.used;
     let from = page_start(store, used, &name, n, start, store::front_of(judged));
-    let tombstone = state.tombstone.bytes;
     let count = state.tombstone.count;
-    paged(put_used(n, &store[from..used], &tombstone, count, false, out))
+    paged(put_used(
+        n,
+        &store[from..used],
+        &state.tombstone.bytes,
+        count,
+        false,
+        out,
+    ))
 }
 
 // ---- merged read

@@ -49,12 +49,12 @@ may e =
     may-page (s .args .t1) (s .args .store .now) (s .args .start .now) _ _ (told c) (c .before .before .before .start-bad .ensures) _ (c .before .early-answer .ensures) (sym (c .number-of .ensures) ∙ e .if1 .left)
 
 -- the keys past the starting label
-abbrev passed : tie.After-tombstone → tie.Else1
-passed c = c .before .before .before .before .before
+abbrev passed : tie.After-page-start → tie.Else1
+passed c = c .before .before .before .before
 
-keys-are : (t : tie.After-tombstone) → let s = begun (passed t .before) in let st = s .args .t1 in let store = s .args .store .now in
-    take (st .used - t .before .page-start .result) (drop (t .before .page-start .result) store) ≡ drop (pageStart (nameOf st) (s .args .start .now) (usedPart st store)) (usedPart st store)
-keys-are t = let s = begun (passed t .before) in past-start (s .args .t1) (s .args .store .now) (s .args .start .now) _ (t .before .page-start .ensures .0)
+keys-are : (t : tie.After-page-start) → let s = begun (passed t .before) in let st = s .args .t1 in let store = s .args .store .now in
+    take (st .used - t .page-start .result) (drop (t .page-start .result) store) ≡ drop (pageStart (nameOf st) (s .args .start .now) (usedPart st store)) (usedPart st store)
+keys-are t = let s = begun (passed t .before) in past-start (s .args .t1) (s .args .store .now) (s .args .start .now) _ (t .page-start .ensures .0)
 
 head-of-requires : tie.Need-head-of-requires
 head-of-requires c κs = search needs
@@ -113,12 +113,9 @@ part-put-used-end c =
     let s = begun (e .before) in
     used-fits (s .args .t1) (s .args .store .now) (undamaged (s .args .t1) (s .args .store .now) (may e .0))
 
-slice-aggregate-put-used : tie.Need-slice-aggregate-put-used
-slice-aggregate-put-used c = let s = begun (passed (c .before .before) .before) in sym (sizes s .tombstone-size)
-
 put-used-requires : tie.Need-put-used-requires
 put-used-requires c κs =
-    let t = c .before .before .before in
+    let t = c .before .before .before .before .before in
     let e = passed t in
     let s = begun (e .before) in
     page-readable (s .args .t1) (s .args .store .now) (s .args .start .now) _ (keys-are t) (sizes s) (may e .0) (may e .1)
@@ -132,7 +129,7 @@ same-length c = search needs
 returns-2 : tie.Need-returns-2
 returns-2 c =
     let put = c .before .before .before in
-    let t = put .before .before .before .before in
+    let t = put .before .before .before .before .before .before in
     let e = passed t in
     let s = begun (e .before) in
     rw (c .paged .ensures) (page-given (s .args .t1) (s .args .store .now) (s .args .start .now) _ _ _ (put .put-used .result) (sizes s) (may e .0) (may e .1) (keys-are t) (put .put-used .ensures))
@@ -154,7 +151,6 @@ page-spec =
     sub-put-used
     part-put-used-start
     part-put-used-end
-    slice-aggregate-put-used
     put-used-requires
     paged-requires
     same-length
