@@ -1,5 +1,6 @@
 /* The first day of two controllers: cases A1, A2, R1 and C1 of document 01 through the C interface, every byte compared, with a remove that
-   comes twice; a listing read in pages, and one of both controllers. Exits 1 on the first difference.
+   comes twice; a listing read in pages, and one of both controllers; a controller that takes the place of another. Exits 1 on the first
+   difference.
 
      cc -std=c99 -Iinclude -o first_day examples/first_day.c target/staticlib/libcapi.a
 */
@@ -44,6 +45,10 @@ static const uint8_t lists_2_1[] = {2, 0x42, 0x37, 0, 1, DOT(2, 1)};
 static const uint8_t add_a[] = {0x50, 0x54, 0x4C, 0, 1, 0x61, 2, 0x52, 0x31, 1, 0x41, DOT(3, 1), 0};
 static const uint8_t add_c[] = {0x50, 0x54, 0x4C, 0, 1, 0x61, 2, 0x52, 0x31, 1, 0x43, DOT(3, 2), 0};
 static const uint8_t lists_three[] = {1, 0x41, 0, 1, DOT(3, 1), 2, 0x42, 0x37, 0, 1, DOT(2, 1), 1, 0x43, 0, 1, DOT(3, 2)};
+
+/* The first add of actor 4, of B7, and the listing of A and both dots of B7. */
+static const uint8_t add_4_1[] = {0x50, 0x54, 0x4C, 0, 1, 0x61, 2, 0x52, 0x31, 2, 0x42, 0x37, DOT(4, 1), 0};
+static const uint8_t lists_new[] = {1, 0x41, 0, 1, DOT(3, 1), 2, 0x42, 0x37, 0, 2, DOT(2, 1), DOT(4, 1)};
 
 /* The remove of C, and the listing without it. */
 static const uint8_t remove_c[] = {0x50, 0x54, 0x4C, 0, 1, 0x72, 2, 0x52, 0x31, 1, DOT(3, 2)};
@@ -176,6 +181,37 @@ static void list_together(const struct controller *a, const struct controller *b
     expect_number("labels of both", listed, labels);
 }
 
+/* A hand-off image: all that a controller holds. */
+struct image {
+    uint8_t bytes[PTL_IMAGE_MAX];
+    size_t written;
+};
+
+/* Writes an image, in an output as long as it; a byte less is too short. */
+static void write_image(const struct controller *c, struct image *image)
+{
+    uint8_t answer = ptl_write_image(c->state, sizeof c->state, c->store, sizeof c->store, image->bytes, sizeof image->bytes, &image->written);
+    expect_number("image", answer, PTL_DONE);
+    size_t length = image->written;
+    answer = ptl_write_image(c->state, sizeof c->state, c->store, sizeof c->store, image->bytes, length - 1, &image->written);
+    expect_number("image, too short", answer, PTL_OUTPUT_SHORT);
+    answer = ptl_write_image(c->state, sizeof c->state, c->store, sizeof c->store, image->bytes, length, &image->written);
+    expect_number("image", answer, PTL_DONE);
+}
+
+/* Loads an image as this actor. A refusal leaves zeros in the state and the store as it was. */
+static void load_image(struct controller *c, uint8_t actor, const struct image *image, uint8_t must)
+{
+    struct controller before = *c;
+    uint8_t answer = ptl_load_image(actor, image->bytes, image->written, c->state, sizeof c->state, c->store, sizeof c->store);
+    expect_number("load", answer, must);
+    if (answer != PTL_DONE) {
+        memset(before.state, 0, sizeof before.state);
+        expect_bytes("state of a refused load", c->state, sizeof c->state, before.state, sizeof before.state);
+        expect_bytes("store of a refused load", c->store, sizeof c->store, before.store, sizeof before.store);
+    }
+}
+
 /* The used length; the tombstone's dots, zeros to its end, and behind them their number, which its last byte has room for. */
 static void holds(const struct controller *c, uint64_t used, const uint8_t *tombstone, size_t tombstone_len)
 {
@@ -190,7 +226,8 @@ static void holds(const struct controller *c, uint64_t used, const uint8_t *tomb
 
 int main(void)
 {
-    static struct controller one, two;
+    static struct controller one, two, three;
+    static struct image image, again;
     static const uint8_t none[1];
 
     /* The library is the one that this header goes with. */
@@ -246,6 +283,33 @@ int main(void)
     list_together(&two, &one, lists_two, sizeof lists_two, 2);
     list_together(&one, &one, lists_three, sizeof lists_three, 3);
 
-    printf("A1, A2, R1 and C1 as in document 01, R1 with its remove twice; a listing in pages, and one of two controllers\n");
+    /* Controller one dies, and another takes its place from its image: not as actor 1, nor as one of which the writer has heard, nor with a bit
+       turned over, but as actor 4. It lists what the dead one listed. */
+    write_image(&one, &image);
+    load_image(&three, 1, &image, PTL_ACTOR_TAKEN);
+    load_image(&three, 3, &image, PTL_ACTOR_TAKEN);
+    image.bytes[20] ^= 1;
+    load_image(&three, 4, &image, PTL_BAD_CHECKSUM);
+    image.bytes[20] ^= 1;
+    load_image(&three, 4, &image, PTL_DONE);
+    holds(&three, ptl_state_used(one.state), dot_1_1, sizeof dot_1_1);
+    expect_bytes("keys", three.store, 74, one.store, 74);
+    list_together(&three, &one, lists_three, sizeof lists_three, 3);
+
+    /* Written again at once the image differs in its actor, the tenth byte, and in the CRC, the last four. */
+    write_image(&three, &again);
+    expect_number("actor of the image", again.bytes[9], 4);
+    again.bytes[9] = 1;
+    expect_bytes("image written again", again.bytes, again.written - 4, image.bytes, image.written - 4);
+
+    /* Its own adds begin with 1, and what was sent meanwhile comes in as ever. */
+    take_in(&three, remove_c, sizeof remove_c);
+    add(&three, none, 0, add_4_1, sizeof add_4_1);
+    take_in(&one, remove_c, sizeof remove_c);
+    take_in(&one, add_4_1, sizeof add_4_1);
+    list_together(&three, &one, lists_new, sizeof lists_new, 2);
+
+    printf("A1, A2, R1 and C1 as in document 01, R1 with its remove twice; a listing in pages, and one of two controllers; one"
+           " that takes another's place\n");
     return 0;
 }

@@ -62,8 +62,8 @@ static struct box {
 } boxes[3], *box = boxes, *other = boxes;
 
 static uint8_t set_name[PTL_NAME_MAX], label[PTL_LABEL_MAX], context[PTL_CONTEXT_MAX];
-static uint8_t message[PTL_MESSAGE_MAX], key[PTL_KEY_MAX], listing[2 * PTL_STORE_MAX];
-static size_t context_len, start_len, message_len, key_len, listing_room, written, labels, place, length;
+static uint8_t message[PTL_MESSAGE_MAX], key[PTL_KEY_MAX], listing[2 * PTL_STORE_MAX], image[PTL_IMAGE_MAX];
+static size_t context_len, start_len, message_len, key_len, listing_room, image_room, image_len, written, labels, place, length;
 static uint8_t actor, answer, byte;
 static bool more;
 static uint64_t counter;
@@ -129,6 +129,16 @@ static void compact(void)
     answer = ptl_compact(box->state, sizeof box->state, box->store, sizeof box->store);
 }
 
+static void write_image(void)
+{
+    answer = ptl_write_image(box->state, sizeof box->state, box->store, sizeof box->store, image, image_room, &image_len);
+}
+
+static void load_image(void)
+{
+    answer = ptl_load_image(actor, image, image_len, box->state, sizeof box->state, box->store, sizeof box->store);
+}
+
 static void write_key(void)
 {
     answer = ptl_write_key('e', set_name, sizeof set_name, label, sizeof label, actor, counter, key, sizeof key, &key_len);
@@ -161,6 +171,8 @@ static struct row {
     {"ptl_merge", merge, 0, 0, 0},
     {"ptl_lookup", lookup, 0, 0, 0},
     {"ptl_compact", compact, 0, 0, 0},
+    {"ptl_write_image", write_image, 0, 0, 0},
+    {"ptl_load_image", load_image, 0, 0, 0},
     {"ptl_write_key", write_key, 0, 0, 0},
     {"ptl_read_key", read_key, 0, 0, 0},
     {"ptl_read_message", read_message, 0, 0, 0},
@@ -301,6 +313,28 @@ static void longest(unsigned made)
     measure(0, read_key);
 }
 
+/* Images of each box, with room for all and for nothing; loaded in box 2 as an actor that is free, as one that is not, and with a bit turned
+   over. */
+static void images(void)
+{
+    for (size_t at = 0; at < 3; at++) {
+        image_room = 0;
+        measure(at, write_image);
+        image_room = sizeof image;
+        measure(at, write_image);
+        actor = PTL_ACTOR_MAX - (uint8_t)at;
+        measure(2, load_image);
+        measure(2, load_image);
+        actor = (uint8_t)(at + 1);
+        measure(2, load_image);
+        image[image_len - 1] ^= 1;
+        measure(2, load_image);
+        image[image_len - 1] ^= 1;
+        actor = PTL_ACTOR_MAX - (uint8_t)at;
+        measure(2, load_image);
+    }
+}
+
 /* Every call that takes a state, on damaged ones. */
 static void damaged(void)
 {
@@ -310,6 +344,7 @@ static void damaged(void)
         measure(at, own_remove);
         measure(at, take_in);
         measure(at, compact);
+        measure(at, write_image);
         reads(at);
     }
 }
@@ -332,6 +367,7 @@ int main(void)
         reads(at);
     }
     longest(made);
+    images();
     damaged();
     bool enough = true;
     for (const struct row *row = rows; row < rows + ROWS; row++) {

@@ -7,7 +7,7 @@
    2. No pointer may be null, that of an empty slice included. What a call writes to (a pointer that is not const) may overlap no other
       argument of the call.
    3. A result is one of the numbers below. On a refusal (any but PTL_DONE) state, store and output buffer keep their bytes, and counts
-      and decoded fields are 0. ptl_set_up alone is different: see there.
+      and decoded fields are 0. ptl_set_up and ptl_load_image alone are different: see there.
    4. Any argument values are answered: damaged states and stores, bytes of any kind, buffers of any length.
    5. A controller is its state block and its store. Calls on different controllers may run at the same time; calls on one may not. A merged
       read is a call on both of its controllers.
@@ -36,7 +36,7 @@ typedef char ptl_size_t_has_8_bytes[sizeof(size_t) == 8 ? 1 : -1];
 
 /* The version of this interface: 100 * major + minor. A higher minor number adds functions and macros and keeps all that was there, the
    block too. Under another major number a function, a limit, a format or the block may be another: see docs/INTEGRATION.md, "Versions". */
-#define PTL_VERSION 401
+#define PTL_VERSION 402
 
 /* The version that the library has: PTL_VERSION of the header that goes with it. */
 uint32_t ptl_version(void);
@@ -74,6 +74,11 @@ uint32_t ptl_version(void);
 /* A message is mark and version (5), kind (1), the length of the set name (1) and the name; in an add the length of the label (1), the label
    and the dot; then the number of dots (1) and the context. No message is longer than an add with all of them at their longest. */
 #define PTL_MESSAGE_MAX (5 + 1 + (1 + PTL_NAME_MAX) + (1 + PTL_LABEL_MAX) + PTL_DOT_SIZE + (1 + PTL_CONTEXT_MAX))
+
+/* A hand-off image is mark and version (5), kind (1), the length of the set name (1) and the name, the writer's actor (1), the clock, the
+   number of dots in the tombstone (1) and the dots, the used length (4), the keys, and a CRC-32 of all of it (4). No image is longer than one
+   with all of them at their longest; beside its keys it has at most PTL_IMAGE_MAX - PTL_STORE_MAX bytes. */
+#define PTL_IMAGE_MAX (5 + 1 + (1 + PTL_NAME_MAX) + 1 + PTL_CLOCK_SIZE + (1 + PTL_TOMBSTONE_SIZE) + (4 + PTL_STORE_MAX) + 4)
 
 /* ---- the state block */
 
@@ -115,27 +120,32 @@ static inline uint64_t ptl_state_used(const uint8_t *state)
     return used;
 }
 
-/* ---- answers: the first that holds, in this order, where it applies to the call */
+/* ---- answers: the first that holds, in this order, where it applies to the call. Of an image 14 and 15 come after 4 and before 5 */
 
 enum {
     PTL_DONE = 0,            /* done */
     PTL_DAMAGED = 1,         /* the state is damaged, or the store is longer than PTL_STORE_MAX */
-    PTL_NO_MARK = 2,         /* message under 5 bytes or wrong mark */
+    PTL_NO_MARK = 2,         /* message or image under 5 bytes or wrong mark */
     PTL_BAD_VERSION = 3,     /* version other than 1 */
-    PTL_BAD_SHAPE = 4,       /* a message's kind is unknown, its fields run past the end or bytes are left over; or bytes given as a key are none */
-    PTL_BAD_NAME = 5,        /* set name, label, or an actor given to set-up or to a key, breaks its rule; or the label of an add does not print */
-    PTL_BAD_DOT = 6,         /* a dot, a context or a key's counter breaks its rule, or an add's context has its own dot */
+    PTL_BAD_SHAPE = 4,       /* a message's or image's kind is unknown, its fields run past the end or bytes are left over; or bytes given as a key
+                                are none */
+    PTL_BAD_NAME = 5,        /* set name, label, or an actor given to set-up or to a key, breaks its rule; or the label of an add does not print;
+                                or an image's set name or writer's actor breaks its rule */
+    PTL_BAD_DOT = 6,         /* a dot, a context or a key's counter breaks its rule, or an add's context has its own dot; or what else is in an
+                                image would be a damaged state */
     PTL_OTHER_SET = 7,       /* message is for another set, or two controllers are of different sets */
     PTL_OWN_AHEAD = 8,       /* an offered dot of this controller's own actor, but for the one an own add takes, is above its own base */
     PTL_COUNTER_END = 9,     /* own add with the own base at the largest counter */
     PTL_TOO_FAR = 10,        /* among all seen and offered dots together, one lies more than PTL_WINDOW above its actor's unbroken run from 1 */
     PTL_TOMBSTONE_FULL = 11, /* the tombstone would pass PTL_TOMBSTONE_DOTS_MAX dots */
-    PTL_STORE_FULL = 12,     /* a key must be stored and used length + key length exceeds the store */
-    PTL_OUTPUT_SHORT = 13    /* the output buffer is shorter than what must be written */
+    PTL_STORE_FULL = 12,     /* a key must be stored and used length + key length exceeds the store; or an image's used length does */
+    PTL_OUTPUT_SHORT = 13,   /* the output buffer is shorter than what must be written */
+    PTL_BAD_CHECKSUM = 14,   /* an image's CRC is wrong */
+    PTL_ACTOR_TAKEN = 15     /* the actor that is to load an image is none, is the writer's, or has a row that is not empty */
 };
 
 /* The number of answers: each is below it. */
-#define PTL_ANSWERS (PTL_OUTPUT_SHORT + 1)
+#define PTL_ANSWERS (PTL_ACTOR_TAKEN + 1)
 
 /* ---- the calls of a controller */
 
@@ -197,6 +207,21 @@ uint8_t ptl_lookup(const uint8_t *state, size_t state_len, const uint8_t *store,
 /* Drops each key whose dot is in the tombstone, and leaves the tombstone empty: the clock goes on keeping the removed dots out. Freed bytes
    of the store become 0. Answers 1. */
 uint8_t ptl_compact(uint8_t *state, size_t state_len, uint8_t *store, size_t store_len);
+
+/* ---- hand-off images */
+
+/* Writes the hand-off image of a controller, of *written bytes, to out: all that it holds, for another box to load. Nothing of the controller is
+   changed. As many bytes as are used, and PTL_IMAGE_MAX - PTL_STORE_MAX more, are always enough for out. Answers 1, 13. */
+uint8_t ptl_write_image(const uint8_t *state, size_t state_len, const uint8_t *store, size_t store_len, uint8_t *out, size_t out_len,
+                        size_t *written);
+
+/* Loads a hand-off image in a box that is to take the writer's place: writes to state, of PTL_STATE_SIZE bytes, what the writer held, under
+   this actor, and the keys to the front of store, which keeps its values past them. What state held before does not matter. The actor is 1 to
+   PTL_ACTOR_MAX, is not the writer's, and the writer had seen no event of it; that no other box has it, no call can tell (docs/INTEGRATION.md,
+   "Swapping a dead box"). Answers 1 if state has another size, and leaves it; then, in this order, 1 if store is longer than PTL_STORE_MAX, 2, 3,
+   4, 14, 15, 5, 6, 12, and writes zeros throughout to state, which is a damaged state; store keeps its bytes then. */
+uint8_t ptl_load_image(uint8_t actor, const uint8_t *image, size_t image_len, uint8_t *state, size_t state_len, uint8_t *store,
+                       size_t store_len);
 
 /* ---- keys and messages */
 

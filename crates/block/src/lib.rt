@@ -4,7 +4,7 @@ ghost use mathlib.Core.List.{[], _∷_, _++_};
 ghost use Prim.Native.Nat.{_+_, _*_, _≤_};
 ghost use lib.ListN.{length};
 ghost use Rattle.wire.specs.Loans.{before, after};
-ghost use Rattle.wire.specs.Bytes.{bigEndian, putAt};
+ghost use Rattle.wire.specs.Bytes.{bigEndian};
 ghost use Rattle.clock.specs.Clock.{clockWords};
 ghost use Rattle.block.specs.Block.{blockSize, AreWords, wordsBytes, wordsAt, Fills, nameIn, tombstoneIn, stateBytes, stateIn, nameAt, clockAt, tombstoneAt, usedAt};
 
@@ -28,22 +28,13 @@ pub const STATE_SIZE: usize = USED_AT + 8;
 
 // ---- a state in a block
 
-// Puts a number in eight bytes at a place. Returns the place after it.
-fn put_number(block: &mut [u8], at: usize, number: u64) -> usize
-    requires { ⌜ at + 8 ≤ length (now block) ⌝ }
-    ensures { λ r. ⌜ (r ≡ at + 8) × (after block ≡ putAt (before block) at (bigEndian 8 number)) ⌝ }
-{
-    let bytes = wire::number_bytes(number);
-    moves::put(block, at, &bytes)
-}
-
 // Puts bytes and a number after them.
 fn put_with_number(block: &mut [u8], at: usize, bytes: &[u8], number: u64) -> usize
     requires { ⌜ at + length (now bytes) + 8 ≤ length (now block) ⌝ }
     ensures { λ r. ⌜ Fills at r (before bytes ++ bigEndian 8 number) (before block) (after block) ⌝ }
 {
     let next = moves::put(block, at, bytes);
-    put_number(block, next, number)
+    moves::put_number(block, next, number)
 }
 
 // Puts words, eight bytes each.
@@ -54,7 +45,7 @@ fn put_words(block: &mut [u8], at: usize, words: &[u64]) -> usize
     let mut next = at;
     let mut i = 0;
     while i < words.len() {
-        next = put_number(block, next, words[i]);
+        next = moves::put_number(block, next, words[i]);
         i += 1;
     }
     next
@@ -109,7 +100,7 @@ pub fn pack(state: calls::State, block: &mut [u8])
     put_name(block, name);
     put_clock(block, clock);
     put_tombstone(block, tombstone);
-    put_number(block, USED_AT, state.used as u64);
+    moves::put_number(block, USED_AT, state.used as u64);
 }
 
 // ---- a block read as a state

@@ -1,23 +1,28 @@
 -- A call that stores new entries and applies a context: what its acceptance says, and that what it leaves is read again. Assumes nothing.
 use Prim.Native.Nat.{ℕ, _+_, _≤_}
-use mathlib.Core.Path.{_≡_, sym, ap, subst}
+use mathlib.Core.Path.{_≡_, sym, ap, _∙_, subst}
 use mathlib.Core.Bool.{true, false}
 use mathlib.Core.List.{List}
 use lib.Dec.{T}
 use lib.ListN.{length}
-use Rattle.wire.specs.Lists.{_∈_, all}
+use borrow.Author.Tests.{ltb-false}
+use Rattle.wire.specs.Lists.{_∈_, all, sort}
 use Rattle.wire.specs.Bytes.{Bytes}
-use Rattle.dots.specs.Dots.{Context, dotOf, dotOk}
+use Rattle.dots.specs.Dots.{Context, dotOf, compareDots, dotOk}
 use Rattle.dots.specs.Entries.{Entry}
+use Rattle.clock.specs.Row.{windowWidth}
+use Rattle.clock.specs.Clock.{joinAll}
+use Rattle.clock.proofs.Clocks.{length-joinEach}
 use Rattle.keys.specs.Entry.{entryOk}
 use Rattle.replica.specs.Machine.{Call, apply, joining, ownBase, effect, allowed}
 use Rattle.calls.specs.declared.State.{State}
-use Rattle.calls.specs.State.{clockModel, Machine, view}
+use Rattle.calls.specs.State.{clockModel, Machine, Sized as Arrays, view}
 use Rattle.calls.specs.Refusals.{tombstoneFull, storeFull}
 use Rattle.calls.specs.Calls.{performed}
 use Rattle.calls.specs.Sequence.{heldAfter}
 use Rattle.calls.proofs.Validity.{Rules, apply-rules}
-use Rattle.calls.proofs.Reading.{viewOf, performed-view}
+use Rattle.calls.proofs.Decided.{Sized}
+use Rattle.calls.proofs.Reading.{viewOf, performed-sized, performed-view}
 use Rattle.calls.proofs.Clauses.{Undamaged, view-rules}
 
 pub record Applies (st : State) (store : Bytes) (call : Call) : Type 0 where
@@ -47,3 +52,10 @@ module _ (st : State) (store : Bytes) (call : Call) (a : Applies st store call) 
 
   pub applied-view : (out message : Bytes) → viewOf (heldAfter (performed st store out call message)) ≡ effect clockModel (view st store) call
   applied-view out message = performed-view st store out call message applied-actor applied-rules
+
+  pub applied-sized : Arrays st → (out message : Bytes) → Sized (heldAfter (performed st store out call message))
+  unfolding view apply joinAll
+  applied-sized arrays out message =
+      let joined = joining clockModel (view st store) (a .fresh) (a .context) in
+      performed-sized st store out call message arrays
+      (ap (λ (m : Machine). length (m .clock)) (a .effect-is) ∙ length-joinEach windowWidth (st .clock .words) (sort compareDots joined) ∙ arrays .words-size) (ltb-false _ _ (a .tombstone-has-room))

@@ -2,13 +2,14 @@
 use mathlib.Core.Path.{refl}
 use Rattle.wire.specs.Lists.{keep, any, all, compareLists, member, ascendsFrom, ascends, insert, insertAll}
 use Rattle.wire.specs.Bytes.{bigEndian, fromBigEndian, zeroAt}
+use Rattle.crc.specs.Crc.{bitStep, bitSteps, byteStep, register, crcOf}
 use Rattle.dots.specs.Names.{textOk, labelPrints}
 use Rattle.dots.specs.Dots.{dotOk, ascendingDots}
 use Rattle.dots.specs.Wire.{dotBytes, dotsBytes, dotsAt, dotsOf}
 use Rattle.dots.specs.Entries.{prepend, linesOf}
 use Rattle.clock.specs.Row.{testBit, seen, wellFormed, trailingOnes, settled, marked, join}
 use Rattle.clock.specs.Offered.{total, known, climb, unbroken, windowEvents, tooFar}
-use Rattle.clock.specs.Clock.{rowAt, withRow, sees, allTo, rowsOk, clockOk, joinDot, joinEach, joinAll, countersOf, near}
+use Rattle.clock.specs.Clock.{rowAt, unused, withRow, sees, allTo, rowsOk, clockOk, joinDot, joinEach, joinAll, countersOf, near}
 use Rattle.keys.specs.Key.{namesOk, keyCounterOk, afterType, keyBytes}
 use Rattle.keys.specs.Read.{fieldsAs, isKey}
 use Rattle.keys.specs.Write.{writeAnswer}
@@ -23,13 +24,17 @@ use Rattle.listing.specs.Listing.{listingBytes}
 use Rattle.replica.specs.Machine.{messagesOf, apply, compacted, listing, found, effect}
 use Rattle.replica.specs.Page.{fitting, firstFits}
 use Rattle.replica.specs.Read.{mergedEntries}
-use Rattle.replica.specs.Rule.{countOwnAdd, historyFrom, ruleListing}
+use Rattle.replica.specs.Rule.{addsOf, noteActor, noteOwnAdd, historyFrom, ruleListing}
 use Rattle.calls.specs.State.{view}
 use Rattle.calls.specs.Damage.{stateNameOk, tombstoneOk, damaged}
 use Rattle.calls.specs.Effect.{stateOf, storeOf}
 use Rattle.calls.specs.Calls.{setUp, ownAddResult, ownRemoveResult, takeInResult, listResult, pageResult, moreFollow, mergeResult, lookupResult, compactResult}
+use Rattle.calls.specs.Image.{rowsBytes, imageRest, imageUnder}
+use Rattle.calls.specs.ImageRead.{versionOk as imageVersionOk, layoutOf as imageLayoutOf, shapeOk as imageShapeOk, crcOk, clockIn, stateAt, freeOf}
+use Rattle.calls.specs.HandOff.{imageResult, loadResult}
 use Rattle.calls.specs.Sequence.{resultOf, run, callOf, events, messageBytesOf, traffic}
 use Rattle.calls.specs.Cases.{dot, answersOf, lastOutput, shown, StarredCases}
+use Rattle.calls.specs.ImageCases.{ImageCases}
 use Rattle.calls.specs.Line.{LineCases}
 use Rattle.calls.specs.Order.{OrderCases}
 use Rattle.calls.specs.DamageCases.{DamageCases}
@@ -37,7 +42,7 @@ use Rattle.calls.specs.Premises.{PremisesMet, TwoLabels}
 
 -- all that the cases compute with: whoever unfolds this unfolds each of these
 computing : Unit {0}
-unfolding keep any all compareLists member ascendsFrom ascends insert insertAll bigEndian fromBigEndian zeroAt textOk labelPrints dotOk ascendingDots dotBytes dotsBytes dotsAt dotsOf prepend linesOf testBit seen wellFormed trailingOnes settled marked join total known climb unbroken windowEvents tooFar rowAt withRow sees allTo rowsOk clockOk joinDot joinEach joinAll countersOf near namesOk keyCounterOk afterType keyBytes fieldsAs isKey entryKey keyEntry messageBytes layoutOf markOk versionOk shapeOk messageAt nameOf messageOf endToEnd storeBytes keyLength keysAfter keyLabel keyDot entriesIn usedOk storeOk listingBytes fitting firstFits apply compacted listing found effect view stateNameOk tombstoneOk damaged stateOf storeOf setUp ownAddResult ownRemoveResult takeInResult listResult pageResult moreFollow lookupResult compactResult resultOf run answersOf lastOutput shown writeAnswer readAnswer countOwnAdd historyFrom ruleListing messagesOf callOf events messageBytesOf traffic mathlib.Core.List.flatMap mergedEntries mergeResult
+unfolding keep any all compareLists member ascendsFrom ascends insert insertAll bigEndian fromBigEndian zeroAt textOk labelPrints dotOk ascendingDots dotBytes dotsBytes dotsAt dotsOf prepend linesOf testBit seen wellFormed trailingOnes settled marked join total known climb unbroken windowEvents tooFar rowAt withRow sees allTo rowsOk clockOk joinDot joinEach joinAll countersOf near namesOk keyCounterOk afterType keyBytes fieldsAs isKey entryKey keyEntry messageBytes layoutOf markOk versionOk shapeOk messageAt nameOf messageOf endToEnd storeBytes keyLength keysAfter keyLabel keyDot entriesIn usedOk storeOk listingBytes fitting firstFits apply compacted listing found effect view stateNameOk tombstoneOk damaged stateOf storeOf setUp ownAddResult ownRemoveResult takeInResult listResult pageResult moreFollow lookupResult compactResult resultOf run answersOf lastOutput shown writeAnswer readAnswer addsOf noteActor noteOwnAdd historyFrom ruleListing messagesOf callOf events messageBytesOf traffic mathlib.Core.List.flatMap mergedEntries mergeResult bitStep bitSteps byteStep register crcOf unused rowsBytes imageRest imageUnder imageVersionOk imageLayoutOf imageShapeOk crcOk clockIn stateAt freeOf imageResult loadResult
 computing = tt
 
 pub starred-cases : StarredCases
@@ -58,6 +63,15 @@ starred-cases = record {
   W4 = refl;
   N1 = refl;
   O1 = λ a b c. key-cases .o1 (dot 1 a) (dot 1 b) (dot 1 c);
+}
+
+pub image-cases : ImageCases
+unfolding computing
+image-cases = record {
+  written = refl;
+  loads = refl;
+  answered = refl;
+  changed = refl;
 }
 
 pub line-cases : LineCases

@@ -2,12 +2,15 @@
 use Prim.Native.Nat.{_≤_}
 use mathlib.Core.Path.{_≡_}
 use mathlib.Core.Bool.{true, false}
-use lib.ListN.{length}
-use borrow.Author.Tests.{leb-true, not-false}
+use mathlib.Core.List.{_++_}
+use native.Mathlib.Omega.{arith}
+use lib.ListN.{length, take, length-append}
+use lib.Seq.{length-take-le, take-at}
+use borrow.Author.Tests.{leb-true, le-leb, not-false}
 use Rattle.wire.specs.Bytes.{Bytes}
 use Rattle.wire.proofs.Tests.{both, neither}
-use Rattle.dots.specs.Dots.{actorOk}
-use Rattle.dots.specs.Names.{nameOk}
+use Rattle.dots.specs.Dots.{actorOk, tombstoneMost}
+use Rattle.dots.specs.Names.{nameMost, nameOk}
 use Rattle.dots.proofs.Rules.{ascending-valid}
 use Rattle.clock.specs.Row.{windowWidth}
 use Rattle.clock.specs.Clock.{rowsOk, clockOk}
@@ -45,6 +48,14 @@ module _ (st : State) (store : Bytes) (u : Undamaged st store) where
   unfolding stateNameOk
   name-ok = let n = u .name in search both
 
+  pub name-most : st .name .len ≤ nameMost
+  unfolding stateNameOk
+  name-most = let n = u .name in leb-true _ _ (search both)
+
+  pub dots-most : st .tombstone .count ≤ tombstoneMost
+  unfolding tombstoneOk
+  dots-most = let t = u .tombstone in leb-true _ _ (search both)
+
   pub rows-ok : rowsOk windowWidth (st .clock .words) ≡ true
   unfolding clockOk
   rows-ok = let c = u .clock in search both
@@ -65,3 +76,19 @@ module _ (st : State) (store : Bytes) (u : Undamaged st store) where
   pub view-rules : Rules (view st store)
   unfolding view tombstoneOk
   view-rules = record { tombstone = ascending-valid (tombstoneDots st) (let t = u .tombstone in search both); keys = entries-of .valid }
+
+-- the used part does not hang on the buffer past it
+pub other-buffer : (st : State) (store past : Bytes) → Undamaged st store → length (take (st .used) store ++ past) ≤ storeMost → Undamaged st (take (st .used) store ++ past)
+unfolding storeOk
+other-buffer st store past u short =
+    let used : Bytes = take (st .used) store in
+    let size : length used ≡ st .used = length-take-le (st .used) store (used-fits st store u) in
+    let fits : st .used ≤ length (used ++ past) = omega (arith, length-append used past) in
+    let s = u .stored in
+    record {
+      actor = u .actor;
+      name = u .name;
+      clock = u .clock;
+      tombstone = u .tombstone;
+      stored = rw (le-leb (length (used ++ past)) storeMost short, le-leb (st .used) (length (used ++ past)) fits, take-at used past (st .used) size) (search both);
+    }

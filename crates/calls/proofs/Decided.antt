@@ -1,4 +1,5 @@
 -- A call that is refused or only reads leaves what is held; one that is accepted did its work and passed every test. Assumes nothing.
+use Prim.Native.Nat.{ℕ}
 use mathlib.Core.Path.{_≡_, refl, sym, ap, _∙_}
 use mathlib.Core.Bool.{Bool, true, false, cond, false≢true}
 use mathlib.Core.List.{List, [], _++_}
@@ -14,9 +15,11 @@ use Rattle.dots.specs.declared.Answer.the-variants.{Done}
 use Rattle.dots.specs.Entries.{Line}
 use Rattle.dots.proofs.Table.{none-holds}
 use Rattle.calls.specs.declared.State.{State}
+use Rattle.calls.specs.State.{Sized as Arrays}
 use Rattle.calls.specs.Damage.{damaged}
-use Rattle.calls.specs.Calls.{Result, refused, decided, ownAddResult, ownRemoveResult, takeInResult, linesPut, listResult, pageResult, lookupResult, compactResult, ownAddRefusals, ownAddDone, ownRemoveRefusals, ownRemoveDone, takeInRefusals, takeInDone, listed, listRefusals, pageLines, pageRefusals, notLooked, lookupRefusals, lookupDone, compactRefusals, compactDone}
-use Rattle.calls.specs.Sequence.{Reading, listReading, pageReading, lookupReading, Input, addInput, removeInput, messageInput, readInput, listInput, pageInput, lookupInput, compactInput, Held, resultOf, answerOf, heldAfter, step}
+use Rattle.calls.specs.Calls.{Result, Looked, refused, decided, ownAddResult, ownRemoveResult, takeInResult, linesPut, listResult, pageResult, lookupResult, compactResult, ownAddRefusals, ownAddDone, ownRemoveRefusals, ownRemoveDone, takeInRefusals, takeInDone, listed, listRefusals, pageLines, pageRefusals, notLooked, lookupRefusals, lookupDone, compactRefusals, compactDone}
+use Rattle.calls.specs.HandOff.{imageResult, loadResult, handedImage, handOffAnswer, handOffResult}
+use Rattle.calls.specs.Sequence.{Reading, listReading, pageReading, lookupReading, Input, addInput, removeInput, messageInput, readInput, listInput, pageInput, lookupInput, compactInput, handOffInput, Held, resultOf, answerOf, heldAfter, step}
 
 -- a part of the result that the call's work leaves as a refusal does
 pub decided-either : {A : Type 0} (st : State) (store out : Bytes) (rs : Refusals) (done : Result) (part : Result → A)
@@ -27,32 +30,68 @@ decided-either st store out rs done part e = by (eqb (numberOf (firstOf rs)) 0)
     by true = e
     by false = refl
 
+-- done where an answer is 0, else another, which has that answer
+module _ {R : Type 0} (answerIn : R → Answer) (a : Answer) (done other : R) where
+  abbrev chosen : R
+  chosen = cond (eqb (numberOf a) 0) done other
+
+  pub chosen-done : answerIn other ≡ a → numberOf (answerIn chosen) ≡ 0 → (chosen ≡ done) × (numberOf a ≡ 0)
+  chosen-done is = by (eqb (numberOf a) 0) refl
+    where
+      by : (b : Bool) → eqb (numberOf a) 0 ≡ b → numberOf (answerIn (cond b done other)) ≡ 0 → (cond b done other ≡ done) × (numberOf a ≡ 0)
+      by true e h = (refl, eqb-true _ 0 e)
+      by false e h = absurd (false≢true (sym e ∙ eq-eqb _ 0 (sym (ap numberOf is) ∙ h)))
+
+  pub chosen-other : (numberOf a ≡ 0 → numberOf (answerIn done) ≡ 0) → (numberOf (answerIn chosen) ≡ 0 → ⊥) → chosen ≡ other
+  chosen-other is = by (eqb (numberOf a) 0) refl
+    where
+      by : (b : Bool) → eqb (numberOf a) 0 ≡ b → (numberOf (answerIn (cond b done other)) ≡ 0 → ⊥) → cond b done other ≡ other
+      by true e h = absurd (h (is (eqb-true _ 0 e)))
+      by false e h = refl
+
+abbrev answerIn : Result → Answer
+answerIn r = r .answer
+
 module _ (st : State) (store out : Bytes) (rs : Refusals) (done : Result) (is-done : done .answer ≡ Done) where
   pub decided-done : numberOf (decided st store out rs done .answer) ≡ 0 → (decided st store out rs done ≡ done) × (numberOf (firstOf rs) ≡ 0)
-  decided-done = by (firstOf rs) (eqb (numberOf (firstOf rs)) 0) refl
-    where
-      by : (a : Answer) (b : Bool) → eqb (numberOf a) 0 ≡ b → numberOf (cond b done (refused st store out a) .answer) ≡ 0
-          → (cond b done (refused st store out a) ≡ done) × (numberOf a ≡ 0)
-      by a true e h = (refl, eqb-true _ 0 e)
-      by a false e h = absurd (false≢true (sym e ∙ eq-eqb _ 0 h))
+  decided-done = chosen-done answerIn (firstOf rs) done (refused st store out (firstOf rs)) refl
 
   pub decided-refused : (numberOf (decided st store out rs done .answer) ≡ 0 → ⊥) → decided st store out rs done ≡ refused st store out (firstOf rs)
-  decided-refused = by (firstOf rs) (eqb (numberOf (firstOf rs)) 0)
-    where
-      by : (a : Answer) (b : Bool) → (numberOf (cond b done (refused st store out a) .answer) ≡ 0 → ⊥) → cond b done (refused st store out a) ≡ refused st store out a
-      by a true h = absurd (h (ap numberOf is-done))
-      by a false h = refl
+  decided-refused = chosen-other answerIn (firstOf rs) done (refused st store out (firstOf rs)) (λ e. ap numberOf is-done)
 
 -- the same of a lookup
 pub looked-done : (st : State) (store label : Bytes) → numberOf (lookupResult st store label .answer) ≡ 0
     → (lookupResult st store label ≡ lookupDone st store label) × (numberOf (firstOf (lookupRefusals st store label)) ≡ 0)
 unfolding lookupResult
-looked-done st store label = by (firstOf (lookupRefusals st store label)) (eqb (numberOf (firstOf (lookupRefusals st store label))) 0) refl
-  where
-    by : (a : Answer) (b : Bool) → eqb (numberOf a) 0 ≡ b → numberOf (cond b (lookupDone st store label) (notLooked a) .answer) ≡ 0
-        → (cond b (lookupDone st store label) (notLooked a) ≡ lookupDone st store label) × (numberOf a ≡ 0)
-    by a true e h = (refl, eqb-true _ 0 e)
-    by a false e h = absurd (false≢true (sym e ∙ eq-eqb _ 0 h))
+looked-done st store label =
+    let answer : Answer = firstOf (lookupRefusals st store label) in
+    chosen-done (λ (r : Looked). r .answer) answer (lookupDone st store label) (notLooked answer) refl
+
+-- of a hand-off, which is done where the image is written and then loads
+module _ (st : State) (store out : Bytes) (actor : ℕ) (room : Bytes) where
+  abbrev written : Answer
+  written = imageResult st store out .answer
+
+  abbrev load : Result
+  load = loadResult actor (handedImage st store out actor room) room
+
+  abbrev answer : Answer
+  answer = handOffAnswer st store out actor room
+
+  both-done : numberOf answer ≡ 0 → (numberOf written ≡ 0) × (numberOf (load .answer) ≡ 0)
+  both-done e = let w = chosen-done (λ (a : Answer). a) written (load .answer) written refl e in (w .1, ap numberOf (sym (w .0)) ∙ e)
+
+  pub hand-off-done : numberOf (handOffResult st store out actor room .answer) ≡ 0
+      → (handOffResult st store out actor room ≡ load) × (numberOf written ≡ 0) × (numberOf (load .answer) ≡ 0)
+  unfolding handOffResult
+  hand-off-done acc =
+      let w = chosen-done answerIn answer load (refused st store [] answer) refl acc in
+      let b = both-done (w .1) in
+      (w .0, b .0, b .1)
+
+  pub hand-off-refused : (numberOf (handOffResult st store out actor room .answer) ≡ 0 → ⊥) → handOffResult st store out actor room ≡ refused st store [] answer
+  unfolding handOffResult
+  hand-off-refused = chosen-other answerIn answer load (refused st store [] answer) (λ e. both-done e .1)
 
 -- ---- calls that only read: "a listing, a lookup ... changes neither", accepted or not
 
@@ -110,14 +149,15 @@ only-reads h (lookupReading label) past = lookup-reads h label past
 
 -- ---- what is held
 
--- what is held is the used bytes, no more and no less
-abbrev pub Sized : Held → Type 0
-Sized h = length (h .used) ≡ h .state .used
+-- what is held: the used bytes, no more and no less, and arrays of their sizes
+pub record Sized (h : Held) : Type 0 where
+  pub used-size : length (h .used) ≡ h .state .used
+  pub arrays : Arrays (h .state)
 
 module _ (h : Held) (sized : Sized h) where
   -- state and store are as they were
   kept : (past : Bytes) (r : Result) → r .state ≡ h .state → r .store ≡ h .used ++ past → heldAfter r ≡ h
-  kept past r e f = rw (e, f) (ap (λ used. record { state = h .state; used = used }) (take-at (h .used) past (h .state .used) sized))
+  kept past r e f = rw (e, f) (ap (λ used. record { state = h .state; used = used }) (take-at (h .used) past (h .state .used) (sized .used-size)))
 
   kept-by : (past out : Bytes) (rs : Refusals) (done : Result) → done .answer ≡ Done
       → (numberOf (decided (h .state) (h .used ++ past) out rs done .answer) ≡ 0 → ⊥)
@@ -143,3 +183,7 @@ module _ (h : Held) (sized : Sized h) where
   refused-keeps (compactInput past) ref =
       let store : Bytes = h .used ++ past in
       kept-by past [] (compactRefusals (h .state) store) (compactDone (h .state) store) refl ref
+  refused-keeps (handOffInput past out actor room) ref =
+      let store : Bytes = h .used ++ past in
+      let answer : Answer = handOffAnswer (h .state) store out actor room in
+      ap heldAfter (hand-off-refused (h .state) store out actor room ref) ∙ kept past (refused (h .state) store [] answer) refl refl

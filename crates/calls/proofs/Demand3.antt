@@ -7,7 +7,6 @@ use lib.Dec.{T}
 use lib.ListN.{length}
 use Rattle.wire.specs.Lists.{_∈_, SameMembers, keep, insertAll}
 use Rattle.wire.specs.Bytes.{Bytes}
-use Rattle.dots.specs.declared.Actor.{Actor}
 use Rattle.dots.specs.Names.{Name}
 use Rattle.dots.specs.Dots.{actorOf}
 use Rattle.dots.specs.Entries.{Entry, Line, lineLabels}
@@ -25,7 +24,7 @@ use Rattle.replica.proofs.RowClock.{controllers-follow, controllers-agree, cont
 use Rattle.calls.specs.State.{clockModel, nameOf, view}
 use Rattle.calls.specs.Effect.{tombstoneOf, stateOf}
 use Rattle.calls.specs.Calls.{Result, Looked, listRefusals, listResult, moreFollow, lookupResult, mergeLines, mergeRefusals, mergeResult}
-use Rattle.calls.specs.Sequence.{Input, addInput, removeInput, messageInput, readInput, listInput, pageInput, lookupInput, compactInput, Held, started, resultOf, accepts, output, heldAfter, step, callOf, events, messageBytesOf, traffic, mergeOf}
+use Rattle.calls.specs.Sequence.{Input, addInput, removeInput, messageInput, readInput, listInput, pageInput, lookupInput, compactInput, handOffInput, Held, started, resultOf, accepts, output, heldAfter, step, callOf, events, messageBytesOf, traffic, mergeOf}
 use Rattle.calls.specs.Demand3.{Accepted, Follows, Agree, Controlled, messagesOf, trafficOf, endOf, Demand3, MergeAccepted, Merges}
 use Rattle.calls.proofs.Reading.{used-after, viewOf}
 use Rattle.calls.proofs.Decided.{looked-done, Sized}
@@ -141,7 +140,7 @@ agree-held ms x y n a = record {
         ∙ sym (compacted-used (y .0) (y .1) past′ acc′)
 
     sizes : (past past′ : Bytes) → step (x .0) (compactInput past) .used ≡ step (y .0) (compactInput past′) .used → step (x .0) (compactInput past) .state .used ≡ step (y .0) (compactInput past′) .state .used
-    sizes past past′ e = sym (stepped x (compactInput past) .1) ∙ ap length e ∙ stepped y (compactInput past′) .1
+    sizes past past′ e = sym (stepped x (compactInput past) .1 .used-size) ∙ ap length e ∙ stepped y (compactInput past′) .1 .used-size
 
 merges-held : (ms : List Message) (x y : SizedHeld) → mergedLines clockModel (readOf clockModel (viewOf (x .0))) (readOf clockModel (viewOf (y .0))) ≡ ruleListing ms → Merges ms (x .0) (y .0)
 merges-held ms x y lines = record {
@@ -157,21 +156,22 @@ append-none [] ys e = (refl, e)
 append-none (x ∷ xs) ys e = absurd (cons≢nil e)
 
 -- where no message was exchanged, the rule has none
-nothing-noted : (a : Actor) (n : History) (h : Held) (i : Input) (b : Bool) → cond b (messageBytesOf h i) [] ≡ [] → cond b (noted a n (callOf i)) n .messages ≡ n .messages
+nothing-noted : (n : History) (h : Held) (i : Input) (b : Bool) → cond b (messageBytesOf h i) [] ≡ [] → cond b (noted n (callOf i)) n .messages ≡ n .messages
 unfolding messageBytesOf callOf machineMessages
-nothing-noted a n h i false e = refl
-nothing-noted a n h (addInput label context past out) true e = absurd (cons≢nil e)
-nothing-noted a n h (removeInput context past out) true e = absurd (cons≢nil e)
-nothing-noted a n h (messageInput message past) true e = absurd (cons≢nil e)
-nothing-noted a n h (readInput reading past) true e = refl
-nothing-noted a n h (compactInput past) true e = refl
+nothing-noted n h i false e = refl
+nothing-noted n h (addInput label context past out) true e = absurd (cons≢nil e)
+nothing-noted n h (removeInput context past out) true e = absurd (cons≢nil e)
+nothing-noted n h (messageInput message past) true e = absurd (cons≢nil e)
+nothing-noted n h (readInput reading past) true e = refl
+nothing-noted n h (compactInput past) true e = refl
+nothing-noted n h (handOffInput past out actor room) true e = refl
 
-no-traffic : (a : Actor) (n : History) (h : Held) (is : List Input) → traffic h is ≡ [] → historyFrom a n (events h is) .messages ≡ n .messages
+no-traffic : (n : History) (h : Held) (is : List Input) → traffic h is ≡ [] → historyFrom n (events h is) .messages ≡ n .messages
 unfolding traffic events historyFrom
-no-traffic a n h [] e = refl
-no-traffic a n h (i ∷ is) e =
+no-traffic n h [] e = refl
+no-traffic n h (i ∷ is) e =
     let parts = append-none (cond (accepts h i) (messageBytesOf h i) []) (traffic (step h i) is) e in
-    no-traffic a (cond (accepts h i) (noted a n (callOf i)) n) (step h i) is (parts .1) ∙ nothing-noted a n h i (accepts h i) (parts .0)
+    no-traffic (cond (accepts h i) (noted n (callOf i)) n) (step h i) is (parts .1) ∙ nothing-noted n h i (accepts h i) (parts .0)
 
 no-pairs : (ms : List Message) (e : Entry) → ms ≡ [] → e ∈ livePairs ms → ⊥
 unfolding keep insertAll flatMap
@@ -181,7 +181,7 @@ one-set : (c d : Controlled) → SameMembers (trafficOf c) (trafficOf d) → (e 
 one-set c d same e k = by (trafficOf c) refl
   where
     by : (ss : List Bytes) → trafficOf c ≡ ss → c .name ≡ d .name
-    by [] none = absurd (no-pairs (messagesOf c) e (no-traffic (actorOf (c .actor)) noHistory (started (c .actor) (c .name)) (c .calls) none) k)
+    by [] none = absurd (no-pairs (messagesOf c) e (no-traffic (noHistory (actorOf (c .actor))) (started (c .actor) (c .name)) (c .calls) none) k)
     by (s ∷ ss) some =
         let here : s ∈ trafficOf c = subst (λ ts. s ∈ ts) (sym some) (List·Memᴰ·head refl) in
         sym (start-name c) ∙ sym (traffic-named (startOf c) (c .calls) s here) ∙ traffic-named (startOf d) (d .calls) s (same s .0 here) ∙ start-name d
@@ -207,10 +207,10 @@ module _ (c : Controlled) where
   reached-is = run-same (startOf c) (c .calls)
 
   reached-name : nameOf (reached .0 .state) ≡ c .name
-  reached-name = ap (λ h. nameOf (h .state)) reached-is ∙ run-name (started (c .actor) (c .name)) (c .calls) ∙ start-name c
+  reached-name = ap (λ h. nameOf (h .state)) reached-is ∙ run-name (startOf c) (c .calls) ∙ start-name c
 
   accepted-is : accepted clockModel controller lifeOf ≡ messagesOf c
-  accepted-is = ap (λ es. historyFrom (actorOf (c .actor)) noHistory es .messages) (events-same (startOf c) (c .calls))
+  accepted-is = ap (λ es. historyFrom (noHistory (actorOf (c .actor))) es .messages) (events-same (startOf c) (c .calls))
 
   machine-follows : MachineFollows clockModel controller reached (messagesOf c)
   unfolding reached

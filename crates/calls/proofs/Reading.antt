@@ -1,22 +1,23 @@
 -- What is written back into a state and store is read again. Assumes nothing.
-use Prim.Native.Nat.{_*_, _-_}
+use Prim.Native.Nat.{_*_, _-_, _≤_}
 use mathlib.Core.Path.{_≡_, ap, _∙_}
 use mathlib.Core.Bool.{true}
 use mathlib.Core.List.{List, _++_, append-assoc}
 use native.Mathlib.Omega.{arith}
-use lib.ListN.{length, take, replicate}
+use lib.ListN.{length, take, replicate, length-append, length-replicate}
 use lib.Seq.{take-append-seam, take-at, take-all}
 use Rattle.wire.specs.Lists.{all}
 use Rattle.wire.specs.Bytes.{Bytes}
 use Rattle.dots.specs.declared.Dot.{Dot}
-use Rattle.dots.specs.Dots.{dotOk}
+use Rattle.dots.specs.Dots.{dotOk, tombstoneMost}
 use Rattle.dots.specs.Wire.{dotsBytes, dotsOf, dotSize, tombstoneSize}
 use Rattle.dots.proofs.RoundTrip.{length-dots, dots-written}
+use Rattle.clock.specs.Clock.{clockWords}
 use Rattle.keys.specs.Entry.{entryOk}
 use Rattle.store.proofs.RoundTrip.{entries-written}
 use Rattle.replica.specs.Machine.{Call, effect}
 use Rattle.calls.specs.declared.State.{State}
-use Rattle.calls.specs.State.{clockModel, Machine, nameOf, tombstoneDots, entries, view}
+use Rattle.calls.specs.State.{clockModel, Machine, Sized as Arrays, nameOf, tombstoneDots, entries, view}
 use Rattle.calls.specs.Effect.{padded, keysPart, stateOf, storeOf}
 use Rattle.calls.specs.Calls.{performed}
 use Rattle.calls.specs.Sequence.{Held, heldAfter}
@@ -53,9 +54,12 @@ module _ (st : State) (store out : Bytes) (call : Call) (message : Bytes) where
   abbrev after : Machine
   after = effect clockModel (view st store) call
 
-  pub performed-sized : Sized (heldAfter (performed st store out call message))
+  pub performed-sized : Arrays st → length (after .clock) ≡ clockWords → length (after .tombstone) ≤ tombstoneMost → Sized (heldAfter (performed st store out call message))
   unfolding stateOf
-  performed-sized = ap length (used-after st store after)
+  performed-sized arrays words few = record {
+    used-size = ap length (used-after st store after);
+    arrays = record { name-size = arrays .name-size; words-size = words; tombstone-size = rw (length-append, length-replicate) (omega (arith, length-dots (after .tombstone))) };
+  }
 
   pub performed-view : after .actor ≡ st .actor → Rules after → viewOf (heldAfter (performed st store out call message)) ≡ after
   performed-view own rules = ap (view (stateOf st after)) (used-after st store after) ∙ view-after st after own (rules .tombstone) (rules .keys)

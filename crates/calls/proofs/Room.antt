@@ -15,7 +15,7 @@ use Rattle.dots.specs.Dots.{Context, compareDots, ascendingDots, contextMost, c
 use Rattle.dots.specs.Wire.{dotsAt, dotsOf}
 use Rattle.dots.specs.Entries.{Entry}
 use Rattle.dots.specs.Message.{add, remove}
-use Rattle.replica.specs.Machine.{Call, ownAdd, ownRemove, takeIn, reads, compact, compacted, seen, apply, effect}
+use Rattle.replica.specs.Machine.{Call, ownAdd, ownRemove, takeIn, reads, compact, handOff, compacted, handedOff, seen, apply, effect}
 use Rattle.calls.specs.declared.State.{State}
 use Rattle.calls.specs.State.{clockModel, Machine, tombstoneDots, view}
 use Rattle.calls.specs.Effect.{tombstoneOf}
@@ -71,13 +71,14 @@ module _ (st : State) (store : Bytes) (empty : st .tombstone ≡ tombstoneOf [])
   nothing-fits = le-ltb tombstoneMost (length (tombstoneDots st)) (omega (arith, ap length no-dots))
 
   room : (call : Call) → contextOk (contextIn call) ≡ true → tombstoneFull st store call ≡ false
-  unfolding contextIn effect compacted m view
+  unfolding contextIn effect compacted handedOff m view
   room (ownAdd l context) ok = applied-fits _ context ok
   room (ownRemove context) ok = applied-fits [] context ok
   room (takeIn (add l d context)) ok = applied-fits _ context ok
   room (takeIn (remove context)) ok = applied-fits [] context ok
   room reads ok = nothing-fits
   room compact ok = refl
+  room (handOff b) ok = nothing-fits
 
 pub room-after-compaction : RoomAfterCompaction
 room-after-compaction h past acc store call = room (step h (compactInput past) .state) store (compacted-tombstone h past acc) call

@@ -1,13 +1,13 @@
 -- Refused calls change nothing, and neither do removes with no dots. Assumes nothing.
 use Prim.Native.Nat.{ℕ, _-_, _*_, _≤_, max}
-use mathlib.Core.Path.{_≡_, refl, sym, ap, _∙_}
+use mathlib.Core.Path.{_≡_, refl, ap, _∙_}
 use mathlib.Core.Bool.{Bool, true, false, cond}
-use mathlib.Core.List.{[], _++_, append-nil}
+use mathlib.Core.List.{[], append-nil}
 use native.Mathlib.Omega.{arith}
 use lib.Dec.{eqb}
-use lib.ListN.{length, take, drop, replicate, length-take, length-drop, take-append-drop}
+use lib.ListN.{length, take, length-take, take-append-drop}
 use lib.Seq.{length-take-le}
-use borrow.Author.Tests.{eqb-true, ne-eqb, leb-true, le-ltb}
+use borrow.Author.Tests.{eqb-true, ne-eqb, le-ltb}
 use Rattle.wire.specs.Lists.{keep, any, all, ascends, insertAll}
 use Rattle.wire.specs.Bytes.{Bytes}
 use Rattle.wire.proofs.Tests.{both}
@@ -32,13 +32,15 @@ use Rattle.calls.specs.State.{clockModel, nameOf, tombstoneDots, view}
 use Rattle.calls.specs.Damage.{tombstoneOk, damaged}
 use Rattle.calls.specs.Effect.{padded, keysPart, stateOf, storeOf, putOut}
 use Rattle.calls.specs.Calls.{setUp, freshState, Result, Looked, refused, decided, performed, ownAddRefusals, ownAddDone, ownAddResult, ownRemoveRefusals, ownRemoveDone, ownRemoveResult, takeInRefusals, takeInDone, takeInResult, listRefusals, listDone, listResult, pageRefusals, pageDone, pageResult, moreFollow, mergeRefusals, mergeDone, mergeResult, notLooked, lookupRefusals, lookupDone, lookupResult, compactRefusals, compactDone, compactResult}
+use Rattle.calls.specs.ImageRead.{layoutOf}
+use Rattle.calls.specs.HandOff.{imageRefusals, imageDone, imageResult, loadRefusals, loadedAt, loadResult}
 use Rattle.calls.specs.Exchange.{receiverRefusals}
 use Rattle.calls.specs.Unchanged.{Refused, Unchanged, NothingFound, zeroState, RefusalsLeave, TombstoneFits, EmptyRemoves}
 use Rattle.calls.proofs.Decided.{decided-refused}
-use Rattle.calls.proofs.Clauses.{Undamaged, undamaged, name-ok, rows-ok, used-fits, entries-of}
+use Rattle.calls.proofs.Clauses.{Undamaged, undamaged, name-ok, rows-ok, dots-most, used-fits, entries-of}
 use Rattle.calls.proofs.Accepted.{remove-accepted}
 use Rattle.calls.proofs.TakenIn.{take-in-accepted}
-use Rattle.calls.proofs.Whole.{zeros-are}
+use Rattle.calls.proofs.Whole.{padded-front}
 use Rattle.calls.proofs.Exchange.{exchanged}
 
 -- ---- refusals
@@ -65,7 +67,7 @@ set-up-leaves a true done e ref = absurd (ref (eqb-true _ 0 e))
 set-up-leaves a false done e ref = refl
 
 pub refusals-leave : RefusalsLeave
-unfolding setUp ownAddResult ownRemoveResult takeInResult listResult pageResult moreFollow mergeResult lookupResult compactResult damaged
+unfolding setUp ownAddResult ownRemoveResult takeInResult listResult pageResult moreFollow mergeResult lookupResult compactResult imageResult loadResult dotsBytes damaged
 refusals-leave = record {
   own-add = λ st store label context out. refusal-leaves st store out (ownAddRefusals st store label context out) (ownAddDone st store label context out) refl;
   own-remove = λ st store context out. refusal-leaves st store out (ownRemoveRefusals st store context out) (ownRemoveDone st store context out) refl;
@@ -78,6 +80,8 @@ refusals-leave = record {
   merge = λ st store st′ store′ out. refusal-leaves st store out (mergeRefusals st store st′ store′ out) (mergeDone st store st′ store′ out) refl;
   lookup = λ st store label. lookup-leaves (firstOf (lookupRefusals st store label)) (eqb (numberOf (firstOf (lookupRefusals st store label))) 0) (lookupDone st store label) refl;
   compact = λ st store. refusal-leaves st store [] (compactRefusals st store) (compactDone st store) refl;
+  image = λ st store out. refusal-leaves st store out (imageRefusals st store out) (imageDone st store out) refl;
+  load = λ actor image store. refusal-leaves (freshState 0 []) store [] (loadRefusals actor image store) (loadedAt actor image store (layoutOf image)) refl;
   set-up = λ actor name. set-up-leaves (setUp actor name .answer) (eqb (numberOf (setUp actor name .answer)) 0) (freshState actor name) refl;
   zero-damaged = λ store. refl;
 }
@@ -85,10 +89,6 @@ refusals-leave = record {
 -- ---- an undamaged state and store, read and written back, are as they were
 
 module _ (st : State) (store : Bytes) (u : Undamaged st store) where
-  few : st .tombstone .count ≤ tombstoneMost
-  unfolding tombstoneOk
-  few = let t = u .tombstone in leb-true _ _ (search both)
-
   keys-kept : keysPart st (view st store) ≡ take (st .used) store
   unfolding view
   keys-kept = entries-of st store u .written
@@ -105,7 +105,7 @@ module _ (st : State) (store : Bytes) (u : Undamaged st store) where
 
   module _ (fits : TombstoneFits st) where
     front : length (take (st .tombstone .count * dotSize) (st .tombstone .bytes)) ≡ st .tombstone .count * dotSize
-    front = let size = fits .size in length-take-le (st .tombstone .count * dotSize) (st .tombstone .bytes) (omega (arith, few))
+    front = let size = fits .size in length-take-le (st .tombstone .count * dotSize) (st .tombstone .bytes) (omega (arith, dots-most st store u))
 
     count-kept : length (tombstoneDots st) ≡ st .tombstone .count
     count-kept = length-dotsOf (take (st .tombstone .count * dotSize) (st .tombstone .bytes)) ∙ rw front (omega arith)
@@ -117,8 +117,7 @@ module _ (st : State) (store : Bytes) (u : Undamaged st store) where
         let bytes : Bytes = st .tombstone .bytes in
         let n : ℕ = st .tombstone .count * dotSize in
         let read : dotsBytes (dotsOf (take n bytes)) ≡ take n bytes = dots-read (take n bytes) (bytes-take bytes n (fits .bytes)) (omega (arith, front)) in
-        let past : length (drop n bytes) ≡ tombstoneSize - length (take n bytes) = rw (length-drop, front, fits .size) in
-        rw read (ap (λ (s : Bytes). take n bytes ++ s) (sym (zeros-are (drop n bytes) (search both) ∙ ap (λ (k : ℕ). replicate k 0) past)) ∙ take-append-drop n bytes)
+        rw read (padded-front tombstoneSize n bytes (fits .size) (omega (arith, dots-most st store u)) (search both))
 
     state-kept : stateOf st (view st store) ≡ st
     unfolding stateOf view
@@ -142,7 +141,7 @@ none-refused st store h =
     let u = undamaged st store h in
     let rows = rows-well windowWidth (st .clock .words) (rows-ok st store u) in
     let close : near windowWidth (st .clock .words) [] ≡ true = reach-all-near windowWidth (omega arith) (st .clock .words) [] rows refl tt (λ a. refl) in
-    let fit : length (tombstoneDots st) ≤ tombstoneMost = omega (arith, length-dotsOf (take (st .tombstone .count * dotSize) (st .tombstone .bytes)), length-take (st .tombstone .count * dotSize) (st .tombstone .bytes), few st store u) in
+    let fit : length (tombstoneDots st) ≤ tombstoneMost = omega (arith, length-dotsOf (take (st .tombstone .count * dotSize) (st .tombstone .bytes)), length-take (st .tombstone .count * dotSize) (st .tombstone .bytes), dots-most st store u) in
     rw (h, close, le-ltb tombstoneMost (length (tombstoneDots st)) fit)
 
 empty-ok : (st : State) (store : Bytes) → Undamaged st store → messageOk (nameOf st) (remove []) ≡ true

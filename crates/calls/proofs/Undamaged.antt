@@ -5,19 +5,16 @@ use mathlib.Core.Bool.{Bool, true, false}
 use mathlib.Core.List.{List, [], _∷_, _++_}
 use native.Mathlib.Omega.{arith}
 use lib.Dec.{leb, eqb}
-use lib.ListN.{length, take, replicate, length-append}
-use lib.Seq.{length-take-le, take-at, take-append-seam, drop-append-seam}
-use borrow.Author.Needs.{needs}
-use borrow.Author.Tests.{ltb-false, le-leb, eqb-true, eqb-false, not-false}
+use lib.ListN.{length, replicate}
+use lib.Seq.{length-take-le, take-append-seam, drop-append-seam}
+use borrow.Author.Tests.{ltb-false, le-leb, eqb-true, eqb-false}
 use Rattle.wire.specs.Lists.{any, all, ascends, insertAll}
 use Rattle.wire.specs.Bytes.{Bytes}
-use Rattle.wire.proofs.Tests.{both, neither-left, neither-right, neither}
-use Rattle.dots.specs.Answer.{numberOf}
+use Rattle.wire.proofs.Tests.{both, neither}
 use Rattle.dots.specs.Names.{Name, nameMost, nameOk, textOk}
 use Rattle.dots.specs.Dots.{actorOk, ascendingDots}
 use Rattle.dots.specs.Wire.{dotsBytes, dotsAt, dotsOf}
 use Rattle.dots.specs.Entries.{Entry, compareEntries}
-use Rattle.dots.proofs.Table.{none-holds}
 use Rattle.clock.specs.Row.{windowWidth}
 use Rattle.clock.specs.Clock.{clockOk, zeroClock, clockWords}
 use Rattle.clock.proofs.Clocks.{row-empty, zero-formed, rows-tested}
@@ -29,25 +26,25 @@ use Rattle.calls.specs.declared.State.{State}
 use Rattle.calls.specs.State.{clockModel, Machine, nameOf, entries, view}
 use Rattle.calls.specs.Damage.{tombstoneOk, stateNameOk, damaged}
 use Rattle.calls.specs.Effect.{keysPart, stateOf}
-use Rattle.calls.specs.Refusals.{badActor, badName, storeFull}
-use Rattle.calls.specs.Calls.{setUp, freshState, setUpRefusals, Result, performed, addWritten, removeWritten}
-use Rattle.calls.specs.Sequence.{Input, addInput, removeInput, messageInput, readInput, compactInput, Held, started, resultOf, answerOf, step, run}
+use Rattle.calls.specs.Refusals.{storeFull}
+use Rattle.calls.specs.Calls.{freshState, Result, performed, addWritten, removeWritten}
+use Rattle.calls.specs.Sequence.{Input, addInput, removeInput, messageInput, readInput, compactInput, handOffInput, Held, started, resultOf, answerOf, step, run}
 use Rattle.calls.specs.Demand3.{Accepted, Controlled, endOf}
-use Rattle.calls.proofs.Decided.{OnlyReads, only-reads, Sized, refused-keeps}
-use Rattle.calls.proofs.Clauses.{Undamaged, undamaged, not-damaged, used-fits, entries-of}
+use Rattle.calls.proofs.Decided.{hand-off-done, OnlyReads, only-reads, Sized, refused-keeps}
+use Rattle.calls.proofs.Clauses.{Undamaged, undamaged, not-damaged, used-fits, other-buffer, entries-of}
 use Rattle.calls.proofs.Applied.{Applies, applied-actor}
 use Rattle.calls.proofs.Accepted.{add-accepted, remove-accepted, compact-accepted}
 use Rattle.calls.proofs.TakenIn.{take-in-accepted}
+use Rattle.calls.proofs.Loading.{loaded-undamaged}
 use Rattle.calls.proofs.Instance.{step-sized}
-use Rattle.calls.proofs.Sequences.{fresh-state, start-sized}
+use Rattle.calls.proofs.Sequences.{set-up-passed, fresh-state, start-sized}
 use Rattle.calls.proofs.Whole.{Whole, view-whole, apply-whole, compacted-whole, insert-size, keep-size, all-zero, whole-undamaged}
 
 -- ---- a call's work
 
--- what a call leaves: a state that is not damaged, whose clock has its 32 words
-pub record Left (r : Result) : Type 0 where
-  pub whole : Undamaged (r .state) (r .store)
-  pub words : length (r .state .clock .words) ≡ clockWords
+-- what a call leaves is not damaged
+abbrev Left : Result → Type 0
+Left r = Undamaged (r .state) (r .store)
 
 module _ (st : State) (store : Bytes) (u : Undamaged st store) where
   -- the keys of an undamaged store take the used length
@@ -71,27 +68,19 @@ module _ (st : State) (store : Bytes) (u : Undamaged st store) where
         let whole : Whole after = subst Whole (sym (a .effect-is)) (apply-whole m (view-whole st store u words) (a .fresh) (a .context) (a .fresh-ok) (a .context-ok) (a .fits) (a .own-next)) in
         let keys : after .keys ≡ insertAll compareEntries (a .fresh) (entries st store) = ap (λ (s : Machine). s .keys) (a .effect-is) in
         let room : length (keysPart st after) ≤ length store = rw keys (insert-fits (a .fresh) (a .at-most-one) (a .store-has-room)) in
-        record {
-          whole = whole-undamaged st store u after whole (applied-actor st store call a) (ltb-false _ _ (a .tombstone-has-room)) room;
-          words = whole .formed .size;
-        }
+        whole-undamaged st store u after whole (applied-actor st store call a) (ltb-false _ _ (a .tombstone-has-room)) room
 
     compacted-leaves : Left (performed st store out compact message)
     unfolding effect compacted view stateOf
     compacted-leaves =
         let m : Machine = view st store in
-        record {
-          whole = whole-undamaged st store u (compacted clockModel m) (compacted-whole m (view-whole st store u words)) refl (omega arith) (omega (arith, keep-size (nameOf st) (live clockModel m) (entries st store), keys-size, used-fits st store u));
-          words = words;
-        }
+        whole-undamaged st store u (compacted clockModel m) (compacted-whole m (view-whole st store u words)) refl (omega arith)
+        (omega (arith, keep-size (nameOf st) (live clockModel m) (entries st store), keys-size, used-fits st store u))
 
 -- ---- every call
 
-reading-leaves : (h : Held) (i : Input) → OnlyReads h i → length (h .state .clock .words) ≡ clockWords → Accepted h i → Left (resultOf h i)
-reading-leaves h i r words acc = record {
-  whole = rw (r .state-is, r .store-is) (undamaged (h .state) (h .used ++ r .past) (r .judged acc));
-  words = rw (r .state-is) words;
-}
+reading-leaves : (h : Held) (i : Input) → OnlyReads h i → Accepted h i → Left (resultOf h i)
+reading-leaves h i r acc = rw (r .state-is, r .store-is) (undamaged (h .state) (h .used ++ r .past) (r .judged acc))
 
 accepted-leaves : (h : Held) (i : Input) → length (h .state .clock .words) ≡ clockWords → Accepted h i → Left (resultOf h i)
 unfolding resultOf
@@ -106,46 +95,33 @@ accepted-leaves h (removeInput context past out) words acc =
 accepted-leaves h (messageInput message past) words acc =
     let w = take-in-accepted (h .state) (h .used ++ past) message acc in
     subst Left (sym (w .result-is)) (applied-leaves (h .state) (h .used ++ past) (w .applies .whole) words [] [] _ (w .applies))
-accepted-leaves h (readInput reading past) words acc = reading-leaves h (readInput reading past) (only-reads h reading past) words acc
+accepted-leaves h (readInput reading past) words acc = reading-leaves h (readInput reading past) (only-reads h reading past) acc
 accepted-leaves h (compactInput past) words acc =
     let w = compact-accepted (h .state) (h .used ++ past) acc in
     subst Left (sym (w .result-is)) (compacted-leaves (h .state) (h .used ++ past) (w .whole) words [] [])
+accepted-leaves h (handOffInput past out actor room) words acc =
+    let w = hand-off-done (h .state) (h .used ++ past) out actor room acc in
+    subst Left (sym (w .0)) (undamaged _ _ (loaded-undamaged actor _ room (w .2)))
 
 -- of any state whose clock has 32 words, and any store
 pub accepted-undamaged : (h : Held) (i : Input) → length (h .state .clock .words) ≡ clockWords → Accepted h i → damaged (resultOf h i .state) (resultOf h i .store) ≡ false
-accepted-undamaged h i words acc = not-damaged _ _ (accepted-leaves h i words acc .whole)
+accepted-undamaged h i words acc = not-damaged _ _ (accepted-leaves h i words acc)
 
 -- ---- every state reached
-
--- the used part does not hang on the buffer past it
-other-buffer : (st : State) (store past : Bytes) → Undamaged st store → length (take (st .used) store ++ past) ≤ storeMost → Undamaged st (take (st .used) store ++ past)
-unfolding storeOk
-other-buffer st store past u short =
-    let used : Bytes = take (st .used) store in
-    let size : length used ≡ st .used = length-take-le (st .used) store (used-fits st store u) in
-    let fits : st .used ≤ length (used ++ past) = omega (arith, length-append used past) in
-    let s = u .stored in
-    record {
-      actor = u .actor;
-      name = u .name;
-      clock = u .clock;
-      tombstone = u .tombstone;
-      stored = rw (le-leb (length (used ++ past)) storeMost short, le-leb (st .used) (length (used ++ past)) fits, take-at used past (st .used) size) (search both);
-    }
 
 -- what is held is undamaged in any buffer that is not too long
 pub record Sound (h : Held) : Type 0 where
   pub sized : Sized h
-  pub words : length (h .state .clock .words) ≡ clockWords
   pub whole : (past : Bytes) → length (h .used ++ past) ≤ storeMost → Undamaged (h .state) (h .used ++ past)
 
 step-sound : (h : Held) → Sound h → (i : Input) → Sound (step h i)
 step-sound h sound i = by (eqb (answerOf h i) 0) refl
   where
     by : (b : Bool) → eqb (answerOf h i) 0 ≡ b → Sound (step h i)
-    by true e =
-        let left = accepted-leaves h i (sound .words) (eqb-true _ 0 e) in
-        record { sized = step-sized h (sound .sized) i; words = left .words; whole = λ past. other-buffer (resultOf h i .state) (resultOf h i .store) past (left .whole) }
+    by true e = record {
+      sized = step-sized h (sound .sized) i;
+      whole = λ past. other-buffer (resultOf h i .state) (resultOf h i .store) past (accepted-leaves h i (sound .sized .arrays .words-size) (eqb-true _ 0 e));
+    }
     by false e = subst Sound (sym (refused-keeps h (sound .sized) i (eqb-false _ 0 e))) sound
 
 run-sound : (h : Held) → Sound h → (is : List Input) → Sound (run h is)
@@ -173,14 +149,10 @@ module _ (actor : ℕ) (name : Name) (past : Bytes) (ok : actorOk actor ≡ true
   fresh-undamaged = record { actor = ok; name = fresh-name; clock = fresh-clock; tombstone = refl; stored = rw (le-leb (length past) storeMost short, le-leb 0 (length past) (omega arith)) }
 
 start-sound : (c : Controlled) → Sound (started (c .actor) (c .name))
-unfolding setUp
-start-sound c =
-    let passed = none-holds (setUpRefusals (c .actor) (c .name)) (search needs) (ap numberOf (c .set-up)) in
-    record {
-      sized = start-sized c;
-      words = rw (fresh-state c);
-      whole = λ past short. rw (fresh-state c) (fresh-undamaged (c .actor) (c .name) past (not-false _ (neither-left _ (badName (c .name)) (passed .0))) (not-false _ (neither-right (badActor (c .actor)) _ (passed .0))) short);
-    }
+start-sound c = record {
+  sized = start-sized c;
+  whole = λ past short. rw (fresh-state c) (fresh-undamaged (c .actor) (c .name) past (set-up-passed c .0) (set-up-passed c .1) short);
+}
 
 -- every state that calls reach from an accepted set-up, in any buffer of at most 65,536 bytes that begins with the used ones
 pub reached-undamaged : (c : Controlled) (past : Bytes) → length (endOf c .used ++ past) ≤ storeMost → damaged (endOf c .state) (endOf c .used ++ past) ≡ false

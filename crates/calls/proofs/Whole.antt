@@ -1,13 +1,13 @@
 -- The rules of an undamaged state, as rules of its machine: calls keep them, and a machine that keeps them is written back undamaged. Assumes nothing.
 use Prim.Native.Nat.{ℕ, suc, zero, _+_, _-_, _*_, _≤_, Ordering, Ordering·lt, Ordering·eq, Ordering·gt}
-use mathlib.Core.Path.{_≡_, refl, ap₂}
+use mathlib.Core.Path.{_≡_, refl, sym, ap, ap₂, _∙_}
 use mathlib.Core.Logic.{inl, inr, ⊎-elim}
 use mathlib.Core.Bool.{Bool, true, false}
-use mathlib.Core.List.{List, [], _∷_, List·Memᴰ·not-nil, Memᴰ·map}
+use mathlib.Core.List.{List, [], _∷_, _++_, List·Memᴰ·not-nil, Memᴰ·map}
 use native.Mathlib.Omega.{arith}
 use lib.Dec.{T, eqb}
-use lib.ListN.{length, replicate, length-append, length-drop, length-replicate}
-use lib.Seq.{drop-at}
+use lib.ListN.{length, take, drop, replicate, length-append, length-drop, length-replicate, take-append-drop}
+use lib.Seq.{length-take-le, drop-at}
 use borrow.Author.Tests.{le-leb, eqb-true}
 use Rattle.wire.specs.Lists.{_∈_, keep, all, insert, place, consIf, Ascending}
 use Rattle.wire.specs.Bytes.{Bytes}
@@ -146,6 +146,13 @@ pub zeros-are : (s : Bytes) → all (λ b. eqb b 0) s ≡ true → s ≡ replica
 unfolding all
 zeros-are [] h = refl
 zeros-are (b ∷ s) h = ap₂ _∷_ (eqb-true b 0 (both-left (eqb b 0) (all (λ x. eqb x 0) s) h)) (zeros-are s (both-right (eqb b 0) (all (λ x. eqb x 0) s) h))
+
+-- bytes that are 0 past a front are that front and zeros
+pub padded-front : (n k : ℕ) (bytes : Bytes) → length bytes ≡ n → k ≤ n → zeroFrom k bytes ≡ true → padded n (take k bytes) ≡ bytes
+padded-front n k bytes size h past =
+    let front : length (take k bytes) ≡ k = length-take-le k bytes (omega arith) in
+    let left : length (drop k bytes) ≡ n - length (take k bytes) = rw (length-drop, front, size) in
+    ap (λ (s : Bytes). take k bytes ++ s) (sym (zeros-are (drop k bytes) past ∙ ap (λ (j : ℕ). replicate j 0) left)) ∙ take-append-drop k bytes
 
 zero-past : (ds : List Dot) → zeroFrom (length ds * dotSize) (padded tombstoneSize (dotsBytes ds)) ≡ true
 zero-past ds = rw (drop-at (dotsBytes ds) (replicate (tombstoneSize - length (dotsBytes ds)) 0) (length ds * dotSize) (omega (arith, length-dots ds))) (all-zero (tombstoneSize - length (dotsBytes ds)))

@@ -77,8 +77,10 @@ pub record Merges (ms : List Message) (h k : Held) : Type 0 where
   pub listing-is : (past past′ out : Bytes) → MergeAccepted h k past past′ out → output (mergeOf h k past past′ out) ≡ listingBytes (ruleListing ms)
   pub labels-are : (past past′ out : Bytes) → MergeAccepted h k past past′ out → mergeOf h k past past′ out .labels ≡ length (ruleListing ms)
 
--- a controller from its set-up on, with any calls
+-- A controller's life: its set-up, and any calls after it. A hand-off is a call of it: demand 3 "reads the loaded box's history as the writer's up to the image,
+-- each call answered as it was then, and after that its own; it speaks only of images that a controller under demand 3 wrote and that came unaltered".
 pub record Controlled : Type 0 where
+  -- at set-up
   pub actor : ℕ
   pub name : Name
   pub set-up : setUp actor name .answer ≡ Done

@@ -5,7 +5,7 @@ use mathlib.Core.Path.{_≡_}
 use Rattle.wire.specs.Bytes.{Bytes}
 use Rattle.dots.specs.Dots.{Context, contextOk}
 use Rattle.dots.specs.Message.{contextOf}
-use Rattle.replica.specs.Machine.{Call, ownAdd, ownRemove, takeIn, reads, compact}
+use Rattle.replica.specs.Machine.{Call, ownAdd, ownRemove, takeIn, reads, compact, handOff}
 use Rattle.calls.specs.Refusals.{tombstoneFull}
 use Rattle.calls.specs.Sequence.{Held, compactInput, step}
 use Rattle.calls.specs.Demand3.{Accepted}
@@ -17,6 +17,7 @@ contextIn (ownRemove context) = context
 contextIn (takeIn m) = contextOf m
 contextIn reads = []
 contextIn compact = []
+contextIn (handOff b) = []
 
 -- after an accepted compaction, whatever was held before it: refusal 11 holds of no call whose context keeps its rule
 abbrev pub RoomAfterCompaction : Type 0

@@ -12,10 +12,11 @@ use Rattle.dots.specs.Dots.{actorOf}
 use Rattle.dots.specs.Wire.{dotsOf}
 use Rattle.dots.specs.Message.{Message}
 use Rattle.messages.specs.Read.{messageOf}
-use Rattle.replica.specs.Machine.{Call, ownAdd, ownRemove, takeIn, reads, compact}
+use Rattle.replica.specs.Machine.{Call, ownAdd, ownRemove, takeIn, reads, compact, handOff}
 use Rattle.replica.specs.Rule.{Event, noHistory, historyFrom}
 use Rattle.calls.specs.declared.State.{State}
 use Rattle.calls.specs.Calls.{setUp, Result, refused, ownAddResult, ownRemoveResult, takeInResult, listResult, pageResult, mergeResult, lookupResult, compactResult}
+use Rattle.calls.specs.HandOff.{handOffResult}
 
 -- A call that only reads, with its arguments and the output that is lent to it. A merged read is none of these: it reads two controllers, leaves what both
 -- hold and changes neither set of either, so it is no call of a sequence but `mergeOf` below.
@@ -31,6 +32,8 @@ pub data Input : Type 0 where
   messageInput : (message past : Bytes) → Input
   readInput : (reading : Reading) (past : Bytes) → Input
   compactInput : (past : Bytes) → Input
+  -- an image is written to `out` and loaded under `actor` into another box's store, `room`
+  handOffInput : (past out : Bytes) (actor : ℕ) (room : Bytes) → Input
 
 abbrev pub listInput : Bytes → Bytes → Input
 listInput past out = readInput (listReading out) past
@@ -60,6 +63,7 @@ resultOf h (removeInput context past out) = ownRemoveResult (h .state) (h .used 
 resultOf h (messageInput message past) = takeInResult (h .state) (h .used ++ past) message
 resultOf h (readInput reading past) = readingResult (h .state) (h .used ++ past) reading
 resultOf h (compactInput past) = compactResult (h .state) (h .used ++ past)
+resultOf h (handOffInput past out actor room) = handOffResult (h .state) (h .used ++ past) out actor room
 
 abbrev pub answerOf : Held → Input → ℕ
 answerOf h i = numberOf (resultOf h i .answer)
@@ -85,15 +89,16 @@ callOf (removeInput context past out) = ownRemove (dotsOf context)
 callOf (messageInput message past) = takeIn (messageOf message)
 callOf (readInput reading past) = reads
 callOf (compactInput past) = compact
+callOf (handOffInput past out actor room) = handOff (actorOf actor)
 
 -- "The rule reads the calls' arguments and which calls were accepted, nothing from clock, tombstone or store."
 unfoldable pub events : Held → List Input → List Event
 events h [] = []
 events h (i ∷ is) = record { call = callOf i; accepted = accepts h i } ∷ events (step h i) is
 
--- label, dot and context of every accepted add, context of every accepted remove; an own add's dot is this actor with the number of its accepted own adds
+-- label, dot and context of every accepted add, context of every accepted remove; an own add's dot is the actor then with the number of own adds accepted under it
 abbrev pub acceptedMessages : ℕ → Name → List Input → List Message
-acceptedMessages actor name is = historyFrom (actorOf actor) noHistory (events (started actor name) is) .messages
+acceptedMessages actor name is = historyFrom (noHistory (actorOf actor)) (events (started actor name) is) .messages
 
 -- a merged read of two controllers, each with a buffer past its used bytes
 abbrev pub mergeOf : Held → Held → Bytes → Bytes → Bytes → Result
@@ -110,6 +115,7 @@ messageBytesOf h (removeInput context past out) = output (resultOf h (removeInpu
 messageBytesOf h (messageInput message past) = message ∷ []
 messageBytesOf h (readInput reading past) = []
 messageBytesOf h (compactInput past) = []
+messageBytesOf h (handOffInput past out actor room) = []
 
 -- each message that was "taken in or written in an accepted call"
 unfoldable pub traffic : Held → List Input → List Bytes

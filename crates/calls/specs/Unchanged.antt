@@ -19,6 +19,7 @@ use Rattle.calls.specs.State.{nameOf}
 use Rattle.calls.specs.Damage.{damaged}
 use Rattle.calls.specs.Effect.{putOut}
 use Rattle.calls.specs.Calls.{setUp, Result, Looked, ownAddResult, ownRemoveResult, takeInResult, listResult, pageResult, moreFollow, mergeResult, lookupResult, compactResult}
+use Rattle.calls.specs.HandOff.{imageResult, loadResult}
 use Rattle.clock.specs.Clock.{clockWords}
 use Rattle.dots.specs.Wire.{tombstoneSize}
 
@@ -62,6 +63,9 @@ pub record RefusalsLeave : Type 0 where
       → Unchanged st store out (mergeResult st store st′ store′ out)
   pub lookup : (st : State) (store label : Bytes) → Refused (lookupResult st store label .answer) → NothingFound (lookupResult st store label)
   pub compact : (st : State) (store : Bytes) → Refused (compactResult st store .answer) → Unchanged st store [] (compactResult st store)
+  pub image : (st : State) (store out : Bytes) → Refused (imageResult st store out .answer) → Unchanged st store out (imageResult st store out)
+  -- "A refused load gives the state of a refused set-up."
+  pub load : (actor : ℕ) (image store : Bytes) → Refused (loadResult actor image store .answer) → Unchanged zeroState store [] (loadResult actor image store)
   -- "A refused set-up gives a state that is zero throughout, ... and so is damaged"
   pub set-up : (actor : ℕ) (name : Name) → Refused (setUp actor name .answer) → setUp actor name .state ≡ zeroState
   pub zero-damaged : (store : Bytes) → damaged zeroState store ≡ true

@@ -56,3 +56,13 @@ pub struct Paged {
     pub labels: usize,
     pub more: bool,
 }
+
+// Where the fields of a hand-off image lie: set name, writer's actor, rows, number of dots in the tombstone, its dots, keys.
+pub struct ImageLayout {
+    pub name: wire::Span,
+    pub actor: usize,
+    pub rows: usize,
+    pub count: usize,
+    pub dots: wire::Span,
+    pub keys: wire::Span,
+}

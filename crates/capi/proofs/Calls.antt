@@ -15,10 +15,12 @@ use Rattle.calls.specs.declared.Listed.{Listed}
 use Rattle.calls.specs.declared.Paged.{Paged}
 use Rattle.calls.specs.Calls.{Result, notLooked, setUp, pageResult, moreFollow, mergeResult, lookupResult}
 use Rattle.calls.specs.Promise as controller
+use Rattle.image.specs.declared.ImageWritten.{ImageWritten}
+use Rattle.image.specs.Promise as images
 use Rattle.block.specs.Block.{blockSize, stateBytes, stateIn}
 use Rattle.capi.specs.Left.{isBlock, packed, noBlock, onBlock, pageLeft, moreLeft, mergeLeft, lookupLeft}
 use Rattle.block.proofs.Blocks.{bytes-in-state}
-use Rattle.capi.specs.Promise.{SetsUp, Leaves, Changes, Lists, Pages, LooksUp}
+use Rattle.capi.specs.Promise.{SetsUp, Leaves, Changes, Lists, Pages, PutsOut, LooksUp}
 
 -- ---- bytes that are no block
 
@@ -36,6 +38,9 @@ module _ (block : Bytes) (other : length block ≡ blockSize → ⊥) where
 
     pub not-listed : Lists (onBlock block store out call) out 0 0 1
     not-listed = rw none (record { answered = refl; out-is = refl; written-is = refl; labels-are = refl })
+
+    pub nothing-put : PutsOut (onBlock block store out call) out 0 1
+    nothing-put = rw none (record { answered = refl; out-is = refl; written-is = refl })
 
   pub not-paged : (store start out : Bytes) → Pages (pageLeft block store start out) (moreLeft block store start out) out 0 0 false 1
   unfolding moreLeft
@@ -112,6 +117,19 @@ module _ (block : Bytes) (size : length block ≡ blockSize) where
 
         pub changed : Changes (onBlock block store out call) after store′ r
         changed = record { answered = left .answered; block-is = left .block-is; state-is = left .state-is; store-is = left .store-is }
+
+      pub put : (out′ : Bytes) (r : ℕ) (done : ImageWritten) → images.WritesImage (call st) out′ done → r ≡ numberOf (done .answer) → PutsOut (onBlock block store out call) out′ (done .written) r
+      put out′ r done writes number = rw some (record { answered = number ∙ ap numberOf (writes .answered); out-is = writes .out-is; written-is = writes .written-is })
+
+      -- a state that comes with the answer, in the block
+      pub loaded : (after store′ : Bytes) (r : ℕ) (done : SetUp) → images.LoadsImage (call st) store′ done → (after ≡ stateBytes (done .state)) × (stateIn after ≡ done .state) → r ≡ numberOf (done .answer)
+          → Changes (onBlock block store out call) after store′ r
+      loaded after store′ r done loads state number = rw some (record {
+        answered = number ∙ ap numberOf (loads .answered);
+        block-is = state .0 ∙ ap stateBytes (loads .state-is);
+        state-is = state .1 ∙ loads .state-is;
+        store-is = loads .store-is;
+      })
 
       -- a call that keeps the state keeps the block
       pub unchanged : AreBytes block → (store′ out′ : Bytes) (r : ℕ) (done : Outcome) → controller.Leaves (call st) store′ out′ done → call st .state ≡ st → r ≡ numberOf (done .answer)

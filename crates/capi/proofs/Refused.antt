@@ -1,5 +1,6 @@
 -- A refused call keeps every lent byte, those of the block too, and its counts are 0; a refused page says that none follow. Assumes nothing.
-use mathlib.Core.Path.{_≡_, refl}
+use Prim.Native.Nat.{ℕ}
+use mathlib.Core.Path.{_≡_, refl, ap}
 use mathlib.Core.Bool.{Bool, true, false}
 use mathlib.Core.List.{[]}
 use lib.Dec.{eqb}
@@ -9,8 +10,10 @@ use Rattle.wire.specs.Bytes.{Bytes, AreBytes}
 use Rattle.dots.specs.Answer.{numberOf, Refusals, firstOf}
 use Rattle.calls.specs.declared.State.{State}
 use Rattle.calls.specs.Calls.{Result, decided, ownAddRefusals, ownAddDone, ownAddResult, takeInRefusals, takeInDone, takeInResult, ownRemoveRefusals, ownRemoveDone, ownRemoveResult, listRefusals, listDone, listResult, pageRefusals, pageDone, pageResult, mergeRefusals, mergeDone, mergeResult, compactRefusals, compactDone, compactResult}
-use Rattle.block.specs.Block.{blockSize, stateIn}
-use Rattle.capi.specs.Left.{Left, isBlock, onBlock, ownAddLeft, ownRemoveLeft, takeInLeft, listLeft, pageLeft, moreLeft, mergeLeft, compactLeft}
+use Rattle.calls.specs.HandOff.{imageRefusals, imageDone, imageResult, loadResult}
+use Rattle.calls.specs.Unchanged.{zeroState}
+use Rattle.block.specs.Block.{blockSize, stateBytes, stateIn}
+use Rattle.capi.specs.Left.{Left, isBlock, onBlock, ownAddLeft, ownRemoveLeft, takeInLeft, listLeft, pageLeft, moreLeft, mergeLeft, compactLeft, imageLeft, loadLeft}
 use Rattle.calls.proofs.Unchanged.{refusals-leave}
 use Rattle.block.proofs.Blocks.{bytes-in-state}
 
@@ -62,6 +65,10 @@ module _ (block store out : Bytes) (small : AreBytes block) where
   unfolding listResult
   list-kept = refused-keeps block store out small (λ (st : State). listRefusals st store out) (λ (st : State). listDone st store out) (λ st. refl)
 
+  pub image-kept : Refused (imageLeft block store out) → Kept (imageLeft block store out) block store out
+  unfolding imageResult
+  image-kept = refused-keeps block store out small (λ (st : State). imageRefusals st store out) (λ (st : State). imageDone st store out) (λ st. refl)
+
   module _ (start : Bytes) where
     pub page-kept : Refused (pageLeft block store start out) → Kept (pageLeft block store start out) block store out
     unfolding pageResult
@@ -94,3 +101,10 @@ module _ (block store block′ store′ out : Bytes) (small : AreBytes block) wh
   -- a refused merge: the second block and its store are only lent for reading
   pub merge-kept : Refused (mergeLeft block store block′ store′ out) → Kept (mergeLeft block store block′ store′ out) block store out
   merge-kept = by-second (isBlock block′) refl
+
+-- a refused load leaves the store, and the block of the state that is zero throughout
+pub load-kept : (actor : ℕ) (image block store : Bytes) → isBlock block ≡ true → Refused (loadLeft actor image block store) → Kept (loadLeft actor image block store) (stateBytes zeroState) store []
+unfolding onBlock
+load-kept actor image block store size r =
+    let is = refusals-leave .load actor image store (λ e. r (rw size e)) in
+    rw size (record { block-is = ap stateBytes (is .state-is); store-is = is .store-is; out-is = is .out-is; written-is = is .written-is; labels-are = is .labels-are })

@@ -13,6 +13,7 @@ use Rattle.keys.specs.Tests.{kindOf}
 use Rattle.keys.specs.Write.{writeRefusals}
 use Rattle.calls.specs.declared.State.{State}
 use Rattle.calls.specs.Calls.{Result, Looked, notLooked, ownAddResult, ownRemoveResult, takeInResult, listResult, pageResult, moreFollow, mergeResult, lookupResult, compactResult}
+use Rattle.calls.specs.HandOff.{imageResult, loadResult}
 use Rattle.block.specs.Block.{blockSize, stateBytes, stateIn}
 
 pub record Left : Type 0 where
@@ -68,6 +69,13 @@ mergeLeft block store block′ store′ out =
 
 abbrev pub compactLeft : Bytes → Bytes → Left
 compactLeft block store = onBlock block store [] (λ st. compactResult st store)
+
+abbrev pub imageLeft : Bytes → Bytes → Bytes → Left
+imageLeft block store out = onBlock block store out (λ st. imageResult st store out)
+
+-- a load reads no state, and leaves one
+abbrev pub loadLeft : ℕ → Bytes → Bytes → Bytes → Left
+loadLeft actor image block store = onBlock block store [] (λ st. loadResult actor image store)
 
 unfoldable pub lookupLeft : Bytes → Bytes → Bytes → Looked
 lookupLeft block store label = cond (isBlock block) (lookupResult (stateIn block) store label) (notLooked Damaged)

@@ -18,11 +18,11 @@ use Rattle.messages.specs.declared.MessageRead.{MessageRead}
 use Rattle.messages.specs.Read.{readOf}
 use Rattle.calls.specs.Calls.{setUp}
 use Rattle.block.specs.Block.{stateBytes, stateIn}
-use Rattle.capi.specs.Left.{Left, isBlock, ownAddLeft, ownRemoveLeft, listLeft, pageLeft, moreLeft, mergeLeft, lookupLeft, keyAnswer, keyWritten}
+use Rattle.capi.specs.Left.{Left, isBlock, ownAddLeft, ownRemoveLeft, listLeft, pageLeft, moreLeft, mergeLeft, imageLeft, lookupLeft, keyAnswer, keyWritten}
 
 -- the version of the interface: 100 times its major number and its minor number
 abbrev pub interfaceVersion : ℕ
-interfaceVersion = 401
+interfaceVersion = 402
 
 -- set-up: a refused one leaves the block of the state that is zero throughout
 pub record SetsUp (actor : ℕ) (name before after : Bytes) (r : ℕ) : Type 0 where
@@ -90,6 +90,18 @@ abbrev pub MergesLabels : Loan Bytes → Loan Bytes → Loan Bytes → Loan Byte
 MergesLabels first store second store′ out written labels r =
     Lists (mergeLeft (before first) (before store) (before second) (before store′) (before out))
     (after out) (after written) (after labels) r
+
+-- a call that puts bytes out and changes neither block nor store
+pub record PutsOut (left : Left) (out : Bytes) (written r : ℕ) : Type 0 where
+  pub answered : r ≡ left .number
+  pub out-is : out ≡ left .out
+  pub written-is : written ≡ left .written
+
+-- writing a hand-off image, on what is lent to it
+abbrev pub WritesImage : Loan Bytes → Loan Bytes → Loan Bytes → Loan ℕ → ℕ → Type 0
+WritesImage state store out written r =
+    PutsOut (imageLeft (before state) (before store) (before out))
+    (after out) (after written) r
 
 -- a lookup: the answer's number, the yes, and the very stretch of the lent store
 pub record LooksUp (block : Bytes) (store : RefT Bytes) (label : Bytes) (found : RefT Bytes) (listed : Bool) (r : ℕ) : Type 0 where

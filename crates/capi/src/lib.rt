@@ -1,11 +1,11 @@
 // The C interface: the calls of the controller on a state that crosses as a block of bytes.
 ghost use mathlib.Core.Path.{_≡_};
 ghost use Rattle.wire.specs.Loans.{before, after};
-ghost use Rattle.capi.specs.Left.{takeInLeft, compactLeft};
-ghost use Rattle.capi.specs.Promise.{interfaceVersion, SetsUp, OwnAdds, OwnRemoves, Changes, ListsLabels, PagesLabels, MergesLabels, LooksUp, WritesKeyOf, ReadsKeyIn, ReadsMessageIn};
+ghost use Rattle.capi.specs.Left.{takeInLeft, compactLeft, loadLeft};
+ghost use Rattle.capi.specs.Promise.{interfaceVersion, SetsUp, OwnAdds, OwnRemoves, Changes, ListsLabels, PagesLabels, MergesLabels, WritesImage, LooksUp, WritesKeyOf, ReadsKeyIn, ReadsMessageIn};
 
 // The version of this interface: 100 times its major number and its minor number.
-const VERSION: u32 = 401;
+const VERSION: u32 = 402;
 
 // Tells the version of the interface.
 #[no_mangle]
@@ -209,6 +209,43 @@ pub extern "C" fn ptl_compact(state: &mut [u8], store: &mut [u8]) -> u8
     if kept {
         return dots::number_of(answer);
     }
+    let next = done.state;
+    block::pack(next, state);
+    dots::number_of(answer)
+}
+
+// ---- hand-off images
+
+// Writes a hand-off image.
+#[no_mangle]
+pub extern "C" fn ptl_write_image(
+    state: &[u8],
+    store: &[u8],
+    out: &mut [u8],
+    written: &mut usize,
+) -> u8
+    ensures { λ r. ⌜ WritesImage state store out written r ⌝ }
+{
+    *written = 0;
+    if state.len() != block::STATE_SIZE {
+        return 1;
+    }
+    let done = image::write_image(block::unpack(state), store, out);
+    *written = done.written;
+    let answer = done.answer;
+    dots::number_of(answer)
+}
+
+// Loads a hand-off image under an actor. A refused load leaves a block of zeros.
+#[no_mangle]
+pub extern "C" fn ptl_load_image(actor: u8, image: &[u8], state: &mut [u8], store: &mut [u8]) -> u8
+    ensures { λ r. ⌜ Changes (loadLeft actor (before image) (before state) (before store)) (after state) (after store) r ⌝ }
+{
+    if state.len() != block::STATE_SIZE {
+        return 1;
+    }
+    let done = image::load(actor, image, store);
+    let answer = done.answer;
     let next = done.state;
     block::pack(next, state);
     dots::number_of(answer)

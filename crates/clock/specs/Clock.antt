@@ -30,6 +30,10 @@ unfoldable pub rowAt : List ℕ → ℕ → Row
 rowAt words zero = zeroRow
 rowAt words (suc i) = cond (ltb i actorMost) (record { base = getD words (i * rowWords) 0; window = getD words (i * rowWords + 1) 0 }) zeroRow
 
+-- an actor "whose row is empty (base and window 0)"
+unfoldable pub unused : List ℕ → ℕ → Bool
+unused words a = eqb (rowAt words a .base) 0 && eqb (rowAt words a .window) 0
+
 -- the clock with another row for an actor
 unfoldable pub withRow : List ℕ → ℕ → Row → List ℕ
 withRow words zero r = words

@@ -139,7 +139,7 @@ pub fn row_of(words: &Words, actor: dots::Actor) -> Row
 }
 
 // Puts the row of an actor in its place.
-fn set_row(words: &mut Words, actor: dots::Actor, row: Row)
+pub fn set_row(words: &mut Words, actor: dots::Actor, row: Row)
     ensures { λ _. ⌜ after words ≡ withRow (before words) (actor .number) (rowOf row) ⌝ }
 {
     let a = actor.number;

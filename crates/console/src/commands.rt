@@ -32,6 +32,12 @@ pub fn list(state: &[u8], store: &[u8], out: &mut [u8]) {
     print::output(labels as u64, out, written);
 }
 
+pub fn image(state: &[u8], store: &[u8], out: &mut [u8]) {
+    let mut written = usize::MAX;
+    let answer = capi::ptl_write_image(state, store, out, &mut written);
+    print::output(answer as u64, out, written);
+}
+
 // One listing of two controllers.
 pub fn merge<'a>(
     first: &[u8],

@@ -35,6 +35,7 @@ fn look(line: Line, state: &[u8], store: &[u8], args: &[u8], out: &mut [u8]) {
         parse::LIST => commands::list(state, store, out),
         parse::PAGE => commands::page(state, store, args, out),
         parse::LOOKUP => lookup::look_up(state, store, args),
+        parse::IMAGE => commands::image(state, store, out),
         parse::KEY => formats::write_key(line.first, line.second, args, out),
         parse::READ_KEY => formats::read_key(args),
         parse::READ_MESSAGE => formats::read_message(args),
@@ -75,6 +76,10 @@ fn run(line: Line, state: &mut [u8; STATE_SIZE], store: &mut [u8], args: &[u8], 
         parse::REMOVE => commands::remove(state, store, args, out),
         parse::TAKE => print::number(capi::ptl_take_in(state, store, args) as u64),
         parse::COMPACT => print::number(capi::ptl_compact(state, store) as u64),
+        parse::LOAD => {
+            let actor = (line.first % 256) as u8;
+            print::number(capi::ptl_load_image(actor, args, state, store) as u64)
+        }
         b'A'..=b'Z' => bench::poke(line, state, store, args),
         _ => look(line, state, store, args, out),
     }

@@ -15,7 +15,7 @@ ghost use Rattle.calls.specs.Promise.{Leaves};
 // ---- set-up
 
 // A set name at the front of 16 bytes, the others 0.
-fn name_bytes(name: &[u8]) -> [u8; dots::NAME_MOST]
+pub fn name_bytes(name: &[u8]) -> [u8; dots::NAME_MOST]
     requires { ⌜ length (now name) ≤ nameMost ⌝ }
     ensures { λ r. ⌜ r ≡ padded nameMost (before name) ⌝ }
 {
@@ -25,7 +25,7 @@ fn name_bytes(name: &[u8]) -> [u8; dots::NAME_MOST]
 }
 
 // The state of a controller that has seen nothing.
-fn fresh_state(actor: u8, name: &[u8]) -> calls::State
+pub fn fresh_state(actor: u8, name: &[u8]) -> calls::State
     requires { ⌜ length (now name) ≤ nameMost ⌝ }
     ensures { λ r. ⌜ r ≡ freshState actor (before name) ⌝ }
 {

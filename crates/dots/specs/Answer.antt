@@ -3,7 +3,7 @@ use Prim.Native.Nat.{ℕ}
 use mathlib.Core.Bool.{Bool, cond}
 use mathlib.Core.List.{List, [], _∷_}
 use Rattle.dots.specs.declared.Answer.{Answer}
-use Rattle.dots.specs.declared.Answer.the-variants.{Done, Damaged, NoMark, BadVersion, BadShape, BadName, BadDot, OtherSet, OwnAhead, CounterEnd, TooFar, TombstoneFull, StoreFull, OutputShort}
+use Rattle.dots.specs.declared.Answer.the-variants.{Done, Damaged, NoMark, BadVersion, BadShape, BadName, BadDot, OtherSet, OwnAhead, CounterEnd, TooFar, TombstoneFull, StoreFull, OutputShort, BadChecksum, ActorTaken}
 
 -- the number that the table gives each answer
 abbrev pub numberOf : Answer → ℕ
@@ -21,6 +21,9 @@ numberOf TooFar = 10
 numberOf TombstoneFull = 11
 numberOf StoreFull = 12
 numberOf OutputShort = 13
+-- document 02, request 7
+numberOf BadChecksum = 14
+numberOf ActorTaken = 15
 
 -- a table of refusals: tests with their answers, in document 01's order
 abbrev pub Refusals : Type 0

@@ -50,6 +50,8 @@ pub enum Answer {
     TombstoneFull,
     StoreFull,
     OutputShort,
+    BadChecksum,
+    ActorTaken,
 }
 
 // The table's number of an answer.
@@ -71,6 +73,8 @@ pub fn number_of(answer: Answer) -> u8
         Answer::TombstoneFull => 11,
         Answer::StoreFull => 12,
         Answer::OutputShort => 13,
+        Answer::BadChecksum => 14,
+        Answer::ActorTaken => 15,
     }
 }
 

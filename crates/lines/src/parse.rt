@@ -26,6 +26,10 @@ pub const MERGE: u8 = b'g';
 
 pub const LOOKUP: u8 = b'u';
 
+pub const IMAGE: u8 = b'i';
+
+pub const LOAD: u8 = b'd';
+
 pub const KEY: u8 = b'k';
 
 pub const READ_KEY: u8 = b'y';
@@ -159,7 +163,7 @@ fn place_of(table: &[u8], text: &[u8]) -> usize {
 // Reads a command. The table has the words of each, its letter, and the kinds of the fields after its first word.
 fn read_command(text: &[u8], args: &mut [u8; ARGUMENTS_MAX]) -> Line {
     let table =
-        b"setup:sbT;add:aTDo;remove:rDo;take:tH;compact:c;list:lo;page:pTo;merge:gcco;lookup:uT;key:kkTTBNo;readkey:yH;readmessage:mH;state:e;store:o;buffer:blb;poke used:UwN;poke actor:AwB;poke name:NwM;poke namelen:LwN;poke base:BwrN;poke window:WwrN;poke dot:DwsBN;poke count:CwN;poke byte:YwnB;poke:?p";
+        b"setup:sbT;add:aTDo;remove:rDo;take:tH;compact:c;list:lo;page:pTo;merge:gcco;lookup:uT;image:io;load:dbH;key:kkTTBNo;readkey:yH;readmessage:mH;state:e;store:o;buffer:blb;poke used:UwN;poke actor:AwB;poke name:NwM;poke namelen:LwN;poke base:BwrN;poke window:WwrN;poke dot:DwsBN;poke count:CwN;poke byte:YwnB;poke:?p";
     if text.len() == 0 {
         return blank(why::NO_WORD);
     }

@@ -100,7 +100,7 @@ messageBytes-injective name name′ m m′ ok ok′ e =
 -- ---- read, then written
 
 module _ (s : Bytes) (small : AreBytes s) (marked : markOk s ≡ true) (version : versionOk s ≡ true) where
-  front-back : (kind : ℕ) (rest : Bytes) → getD s 5 0 ≡ kind → frontFixed + getD s 6 0 ≤ length s → rest ≡ drop (frontFixed + getD s 6 0) s
+  pub front-back : (kind : ℕ) (rest : Bytes) → getD s 5 0 ≡ kind → frontFixed + getD s 6 0 ≤ length s → rest ≡ drop (frontFixed + getD s 6 0) s
       → frontBytes kind (take (getD s 6 0) (drop frontFixed s)) ++ rest ≡ s
   unfolding markOk versionOk
   front-back kind rest e fits r =

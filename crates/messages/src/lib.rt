@@ -41,7 +41,7 @@ pub struct MessageRead {
 // ---- where the fields are, by the length bytes
 
 // The field whose length byte stands at a place.
-fn counted_at(s: &[u8], at: usize) -> wire::Span
+pub fn counted_at(s: &[u8], at: usize) -> wire::Span
     requires { ⌜ at ≤ 1024 ⌝ }
     ensures { λ r. ⌜ (r ≡ countedAt (before s) at) × (r .at ≡ at + 1) × (r .len < 256) ⌝ }
 {
@@ -53,7 +53,7 @@ fn counted_at(s: &[u8], at: usize) -> wire::Span
 }
 
 // The dots whose number stands at a place.
-fn dots_counted_at(s: &[u8], at: usize) -> wire::Span
+pub fn dots_counted_at(s: &[u8], at: usize) -> wire::Span
     requires { ⌜ at ≤ 1024 ⌝ }
     ensures { λ r. ⌜ (r ≡ dotsCountedAt (before s) at) × (r .at ≡ at + 1) × (r .len ≤ 2295) ⌝ }
 {
@@ -107,7 +107,7 @@ fn layout_of(s: &[u8]) -> Layout
 
 // ---- the answer
 
-fn mark_ok(s: &[u8]) -> bool
+pub fn mark_ok(s: &[u8]) -> bool
     ensures { λ r. ⌜ r ≡ markOk (before s) ⌝ }
 {
     let first = wire::byte_at(s, 0);
@@ -263,7 +263,7 @@ pub fn read_message(s: &[u8]) -> MessageRead
 // ---- writing
 
 // Puts a count and what it counts.
-fn put_counted(out: &mut [u8], at: usize, count: u8, field: &[u8]) -> usize
+pub fn put_counted(out: &mut [u8], at: usize, count: u8, field: &[u8]) -> usize
     requires { ⌜ at + 1 + length (now field) ≤ length (now out) ⌝ }
     ensures { λ r. ⌜ (r ≡ at + 1 + length (before field)) × (after out ≡ putAt (before out) at (count ∷ before field)) ⌝ }
 {
@@ -273,7 +273,7 @@ fn put_counted(out: &mut [u8], at: usize, count: u8, field: &[u8]) -> usize
 }
 
 // Puts mark, version 1, kind and set name at the front.
-fn put_front(out: &mut [u8], kind: u8, name: &[u8]) -> usize
+pub fn put_front(out: &mut [u8], kind: u8, name: &[u8]) -> usize
     requires { ⌜ (length (now name) ≤ nameMost) × (length (now name) + frontFixed ≤ length (now out)) ⌝ }
     ensures { λ r. ⌜ FrontPut kind (before name) (before out) (after out) r ⌝ }
 {

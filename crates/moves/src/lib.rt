@@ -4,7 +4,7 @@ ghost use mathlib.Core.List.{_++_};
 ghost use Prim.Native.Nat.{_+_, _-_, _≤_};
 ghost use lib.ListN.{length, take, drop, replicate};
 ghost use Rattle.wire.specs.Loans.{before, after};
-ghost use Rattle.wire.specs.Bytes.{putAt, insertedAt};
+ghost use Rattle.wire.specs.Bytes.{bigEndian, putAt, insertedAt};
 
 // ---- writing and moving
 
@@ -16,6 +16,24 @@ pub fn put(out: &mut [u8], at: usize, src: &[u8]) -> usize
     let end = at + src.len();
     bytes::copy(src, &mut out[at..end]);
     end
+}
+
+// Puts a number in eight bytes at a place. Returns the place after it.
+pub fn put_number(out: &mut [u8], at: usize, number: u64) -> usize
+    requires { ⌜ at + 8 ≤ length (now out) ⌝ }
+    ensures { λ r. ⌜ (r ≡ at + 8) × (after out ≡ putAt (before out) at (bigEndian 8 number)) ⌝ }
+{
+    let bytes = wire::number_bytes(number);
+    put(out, at, &bytes)
+}
+
+// The same in four bytes.
+pub fn put_four(out: &mut [u8], at: usize, number: u32) -> usize
+    requires { ⌜ at + 4 ≤ length (now out) ⌝ }
+    ensures { λ r. ⌜ (r ≡ at + 4) × (after out ≡ putAt (before out) at (bigEndian 4 number)) ⌝ }
+{
+    let bytes = wire::four_bytes(number);
+    put(out, at, &bytes)
 }
 
 // Moves all but the last `by` bytes of s up by `by`, in place; the first `by` keep their values.

@@ -1,16 +1,19 @@
--- Slips and compactions as runs of the machine, and merges of two, by computing. Assumes nothing.
+-- Slips, compactions and hand-offs as runs of the machine, and merges of two, by computing. Assumes nothing.
 use mathlib.Core.Path.{refl}
 use Rattle.wire.specs.Lists.{keep, any, all, compareLists, member, insert, insertAll}
+use Rattle.dots.specs.Dots.{dotOk}
 use Rattle.dots.specs.Entries.{prepend, linesOf}
 use Rattle.clock.specs.Row.{testBit, seen, trailingOnes, settled, marked, join}
-use Rattle.clock.specs.Clock.{rowAt, withRow, sees, joinDot, joinEach, joinAll}
-use Rattle.replica.specs.Machine.{apply, compacted, listing, effect}
+use Rattle.clock.specs.Offered.{total, known, climb, unbroken, windowEvents, tooFar}
+use Rattle.clock.specs.Clock.{rowAt, unused, withRow, sees, allTo, joinDot, joinEach, joinAll, countersOf, near}
+use Rattle.replica.specs.Machine.{messagesOf, apply, compacted, handedOff, listing, effect, allowed}
+use Rattle.replica.specs.Rule.{addsOf, noteActor, noteOwnAdd, historyFrom}
 use Rattle.replica.specs.Read.{mergedEntries}
-use Rattle.replica.specs.Cases.{run, SlipCases, CompactionCases, MergeCases}
+use Rattle.replica.specs.Cases.{run, events, SlipCases, CompactionCases, HandOffCases, MergeCases}
 
 -- all that the cases compute with: whoever unfolds this unfolds each of these
 computing : Unit {0}
-unfolding keep any all compareLists member insert insertAll prepend linesOf testBit seen trailingOnes settled marked join rowAt withRow sees joinDot joinEach joinAll apply compacted listing effect run mergedEntries
+unfolding keep any all compareLists member insert insertAll dotOk prepend linesOf testBit seen trailingOnes settled marked join total known climb unbroken windowEvents tooFar rowAt unused withRow sees allTo joinDot joinEach joinAll countersOf near messagesOf apply compacted handedOff listing effect allowed addsOf noteActor noteOwnAdd historyFrom run events mergedEntries
 computing = tt
 
 pub slip-cases : SlipCases
@@ -30,6 +33,10 @@ compaction-cases = record {
   add-after = refl;
   live-stays = refl;
 }
+
+pub hand-off-cases : HandOffCases
+unfolding computing
+hand-off-cases = record { answered = refl; goes-on = refl; counted = refl }
 
 pub merge-cases : MergeCases
 unfolding computing

@@ -14,18 +14,23 @@ use Rattle.dots.specs.Dots.{Context, dotOf, compareActors, compareDots}
 use Rattle.dots.specs.Entries.{Entry, entry, entryDot, compareEntries}
 use Rattle.dots.specs.Message.{Message, add, remove, contextOf, pairsOf}
 use Rattle.wire.proofs.Tests.{decide, pass, T-both, T-and}
-use Rattle.wire.proofs.Lists.{keep-member, member-keep, any-member, not-member, insertAll-member, member-insertAll, ascending-insertAll}
+use Rattle.wire.proofs.Lists.{tie-is, keep-member, member-keep, any-member, not-member, insertAll-member, member-insertAll, ascending-insertAll}
 use Rattle.dots.proofs.Orders.{actors, dots, entries}
 use Rattle.replica.specs.Clock.{ClockModel, ClockLaws}
-use Rattle.replica.specs.Machine.{Call, ownAdd, ownRemove, takeIn, reads, compact, messagesOf, State, setUp, seen, unseen, ownBase, nextDot, ifUnseen, joining, apply, compacted, effect, aboveOwnBase, mayApply, mayAdd, allowed}
-use Rattle.replica.specs.Rule.{History, noHistory, countOwnAdd, noted, pairs, removed, Paired, OneLabelPerDot}
+use Rattle.replica.specs.Machine.{Call, ownAdd, ownRemove, takeIn, reads, compact, handOff, messagesOf, State, setUp, seen, unseen, ownBase, nextDot, ifUnseen, joining, apply, compacted, handedOff, effect, aboveOwnBase, mayApply, mayAdd, allowed}
+use Rattle.replica.specs.Rule.{History, noHistory, addsOf, nextOwn, noteActor, noteOwnAdd, noted, pairs, removed, Paired, OneLabelPerDot}
 use Rattle.replica.specs.Shrinking.{shrunk, Shrinks}
 use Rattle.replica.proofs.Listings.{fewer}
 use Rattle.replica.proofs.Shrinking.{compaction-shrinks}
 
+-- one own add more counts for its actor
+adds-more : {t : Bool} (a b : Actor) (bs : List Actor) → isEq (compareActors a b) ≡ t → addsOf a (b ∷ bs) ≡ addsOf a bs + cond t 1 0
+unfolding addsOf
+adds-more a b bs e = ap (λ (t : Bool). addsOf a bs + cond t 1 0) e
+
 module _ (C : ClockModel) (L : ClockLaws C) where
-  pub record Invariant (a : Actor) (s : State C) (h : History) : Type 0 where
-    pub actor-is : s .actor ≡ a
+  pub record Invariant (s : State C) (h : History) : Type 0 where
+    pub actor-is : s .actor ≡ h .actor
     pub well : L .WellFormed (s .clock)
     pub tombstone-ascends : Ascending compareDots (s .tombstone)
     pub keys-ascend : Ascending compareEntries (s .keys)
@@ -38,12 +43,12 @@ module _ (C : ClockModel) (L : ClockLaws C) where
     -- a removed key is in the tombstone, and what is there is removed
     pub dead-tombstoned : (e : Entry) → e ∈ s .keys → e .dot ∈ removed (h .messages) → e .dot ∈ s .tombstone
     pub tombstoned-removed : (d : Dot) → d ∈ s .tombstone → d ∈ removed (h .messages)
-    -- of the own actor the clock sees as many events as there were own adds
-    pub own-seen : (n : ℕ) → n < h .ownAdds → T (seen C s (dotOf (s .actor) (n + 1)))
-    pub own-bounded : (n : ℕ) → T (seen C s (dotOf (s .actor) n)) → n ≤ h .ownAdds
+    -- of every actor the clock sees as many events as it has own adds, and of the actor now no more
+    pub own-seen : (b : Actor) (n : ℕ) → n < addsOf b (h .ownAdds) → T (seen C s (dotOf b (n + 1)))
+    pub own-bounded : (n : ℕ) → T (seen C s (dotOf (s .actor) n)) → n ≤ addsOf (s .actor) (h .ownAdds)
 
-  pub at-start : (a : Actor) → Invariant a (setUp C a) noHistory
-  unfolding flatMap
+  pub at-start : (a : Actor) → Invariant (setUp C a) (noHistory a)
+  unfolding flatMap addsOf
   at-start a = record {
     actor-is = refl;
     well = L .zero-well;
@@ -55,28 +60,31 @@ module _ (C : ClockModel) (L : ClockLaws C) where
     live-stored = λ single e m n. m;
     dead-tombstoned = λ e m n. n;
     tombstoned-removed = λ d m. m;
-    own-seen = λ n k. absurd (omega arith);
+    own-seen = λ b n k. absurd (omega arith);
     own-bounded = λ n t. absurd (L .zero-unseen (dotOf a n) t);
   }
 
-  -- the own base is the number of own adds
-  pub own-base : {a : Actor} {s : State C} {h : History} → Invariant a s h → ownBase C s ≡ h .ownAdds
-  own-base {a} {s} {h} inv = omega (arith, not-less, not-more)
+  -- the own base is the number of own adds of the actor now
+  pub own-base : {s : State C} {h : History} → Invariant s h → ownBase C s ≡ addsOf (s .actor) (h .ownAdds)
+  own-base {s} {h} inv = omega (arith, not-less, not-more)
     where
       b : ℕ
       b = ownBase C s
 
-      not-less : b < h .ownAdds → ⊥
-      not-less k = L .run-ends (s .clock) (inv .well) (s .actor) (inv .own-seen b k)
+      n : ℕ
+      n = addsOf (s .actor) (h .ownAdds)
 
-      not-more : h .ownAdds < b → ⊥
-      not-more k = let r = inv .own-bounded (h .ownAdds + 1) (L .run-seen (s .clock) (inv .well) (s .actor) (h .ownAdds) k) in omega arith
+      not-less : b < n → ⊥
+      not-less k = L .run-ends (s .clock) (inv .well) (s .actor) (inv .own-seen (s .actor) b k)
 
-  pub next-dot : {a : Actor} {s : State C} {h : History} → Invariant a s h → nextDot C s ≡ dotOf a (h .ownAdds + 1)
-  next-dot inv i = dotOf (inv .actor-is i) (own-base inv i + 1)
+      not-more : n < b → ⊥
+      not-more k = let r = inv .own-bounded (n + 1) (L .run-seen (s .clock) (inv .well) (s .actor) n k) in omega arith
 
-  -- what a message, the entries stored for it and the new count of own adds must meet
-  record Absorbable (s : State C) (h : History) (m : Message) (fresh : List Entry) (count : ℕ) : Type 0 where
+  pub next-dot : {s : State C} {h : History} → Invariant s h → nextDot C s ≡ nextOwn h
+  next-dot {s} {h} inv = ap (λ n. dotOf (s .actor) (n + 1)) (own-base inv) ∙ ap (λ b. dotOf b (addsOf b (h .ownAdds) + 1)) (inv .actor-is)
+
+  -- what a message, the entries stored for it and the own adds with it must meet
+  record Absorbable (s : State C) (h : History) (m : Message) (fresh : List Entry) (adds : List Actor) : Type 0 where
     fits : T (C .fits (s .clock) (joining C s fresh (contextOf m)))
     fresh-paired : (e : Entry) → e ∈ fresh → e ∈ pairsOf m
     paired-fresh : (e : Entry) → e ∈ pairsOf m → (e ∈ fresh) ⊎ T (seen C s (e .dot))
@@ -84,12 +92,12 @@ module _ (C : ClockModel) (L : ClockLaws C) where
     -- refusal 6
     not-own-context : (e : Entry) → e ∈ pairsOf m → e .dot ∈ contextOf m → ⊥
     -- refusal 8, and an own add's dot
-    own-kept : h .ownAdds ≤ count
-    own-reached : (n : ℕ) → n < count → (n < h .ownAdds) ⊎ ((l : Label) × (entry l (dotOf (s .actor) (n + 1)) ∈ fresh))
-    own-offered : (n : ℕ) → dotOf (s .actor) n ∈ joining C s fresh (contextOf m) → n ≤ count
+    own-kept : addsOf (s .actor) (h .ownAdds) ≤ addsOf (s .actor) adds
+    own-reached : (b : Actor) (n : ℕ) → n < addsOf b adds → (n < addsOf b (h .ownAdds)) ⊎ ((l : Label) × (entry l (dotOf b (n + 1)) ∈ fresh))
+    own-offered : (n : ℕ) → dotOf (s .actor) n ∈ joining C s fresh (contextOf m) → n ≤ addsOf (s .actor) adds
 
-  module _ {a : Actor} {s : State C} {h : History} (inv : Invariant a s h) {m : Message} {fresh : List Entry} {count : ℕ}
-      (ok : Absorbable s h m fresh count) where
+  module _ {s : State C} {h : History} (inv : Invariant s h) {m : Message} {fresh : List Entry} {adds : List Actor}
+      (ok : Absorbable s h m fresh adds) where
     abbrev ms : List Message
     ms = h .messages
 
@@ -182,14 +190,14 @@ module _ (C : ClockModel) (L : ClockLaws C) where
         ⊎-elim (λ c. Memᴰ·append-left (removed ms) ((keep-member (seen C s) (contextOf m) c) .0)) (λ o. Memᴰ·append-right (contextOf m) (inv .tombstoned-removed d o))
         (insertAll-member compareDots dots (keep (seen C s) (contextOf m)) (s .tombstone) k)
 
-    after-own-seen : (n : ℕ) → n < count → T (seen C after (dotOf (s .actor) (n + 1)))
-    after-own-seen n k = after-sees (dotOf (s .actor) (n + 1)) (⊎-map (inv .own-seen n) (λ p. fresh-joined (p .1)) (ok .own-reached n k))
+    after-own-seen : (b : Actor) (n : ℕ) → n < addsOf b adds → T (seen C after (dotOf b (n + 1)))
+    after-own-seen b n k = after-sees (dotOf b (n + 1)) (⊎-map (inv .own-seen b n) (λ p. fresh-joined (p .1)) (ok .own-reached b n k))
 
-    after-own-bounded : (n : ℕ) → T (seen C after (dotOf (s .actor) n)) → n ≤ count
+    after-own-bounded : (n : ℕ) → T (seen C after (dotOf (s .actor) n)) → n ≤ addsOf (s .actor) adds
     unfolding joined
     after-own-bounded n t = ⊎-elim (λ k. let b = inv .own-bounded n k in let g = ok .own-kept in omega arith) (ok .own-offered n) (sees-after (dotOf (s .actor) n) t)
 
-    applied : Invariant a (apply C s fresh (contextOf m)) (record { ownAdds = count; messages = m ∷ h .messages })
+    applied : Invariant (apply C s fresh (contextOf m)) (record { actor = h .actor; ownAdds = adds; messages = m ∷ h .messages })
     unfolding apply
     applied = record {
       actor-is = inv .actor-is;
@@ -206,8 +214,8 @@ module _ (C : ClockModel) (L : ClockLaws C) where
       own-bounded = after-own-bounded;
     }
 
-  pub shrinking-keeps : {a : Actor} {s : State C} {h : History} {keys : List Entry} {tombstone : List Dot} → Invariant a s h → Shrinks C s keys tombstone
-      → Invariant a (shrunk C s keys tombstone) h
+  pub shrinking-keeps : {s : State C} {h : History} {keys : List Entry} {tombstone : List Dot} → Invariant s h → Shrinks C s keys tombstone
+      → Invariant (shrunk C s keys tombstone) h
   shrinking-keeps inv less = record {
     actor-is = inv .actor-is;
     well = inv .well;
@@ -223,16 +231,35 @@ module _ (C : ClockModel) (L : ClockLaws C) where
     own-bounded = inv .own-bounded;
   }
 
-  compaction-keeps : {a : Actor} {s : State C} {h : History} → Invariant a s h → Invariant a (compacted C s) h
+  compaction-keeps : {s : State C} {h : History} → Invariant s h → Invariant (compacted C s) h
   unfolding compacted
   compaction-keeps {s = s} inv = shrinking-keeps inv (compaction-shrinks C s)
 
-  module _ {a : Actor} {s : State C} {h : History} (inv : Invariant a s h) where
+  -- another actor goes on, of which nothing was seen; so it has no own adds in the history either
+  hand-off-keeps : {s : State C} {h : History} → Invariant s h → (b : Actor) → T (C .unused (s .clock) b)
+      → Invariant (handedOff C s b) (record { actor = b; ownAdds = h .ownAdds; messages = h .messages })
+  unfolding handedOff
+  hand-off-keeps {s} inv b empty = record {
+    actor-is = refl;
+    well = inv .well;
+    tombstone-ascends = inv .tombstone-ascends;
+    keys-ascend = inv .keys-ascend;
+    seen-named = inv .seen-named;
+    named-seen = inv .named-seen;
+    key-paired = inv .key-paired;
+    live-stored = inv .live-stored;
+    dead-tombstoned = inv .dead-tombstoned;
+    tombstoned-removed = inv .tombstoned-removed;
+    own-seen = inv .own-seen;
+    own-bounded = λ n t. absurd (L .unused-unseen (s .clock) b empty n t);
+  }
+
+  module _ {s : State C} {h : History} (inv : Invariant s h) where
     -- refusal 8
-    own-limit : (ds : List Dot) → T (not (any (aboveOwnBase C s) ds)) → (n : ℕ) → dotOf (s .actor) n ∈ ds → n ≤ h .ownAdds
+    own-limit : (ds : List Dot) → T (not (any (aboveOwnBase C s) ds)) → (n : ℕ) → dotOf (s .actor) n ∈ ds → n ≤ addsOf (s .actor) (h .ownAdds)
     own-limit ds ok n k = ⊎-elim (λ t. let b = own-base inv in let r = leb→le n (ownBase C s) t in omega arith) above (decide (leb n (ownBase C s)))
       where
-        above : T (not (leb n (ownBase C s))) → n ≤ h .ownAdds
+        above : T (not (leb n (ownBase C s))) → n ≤ addsOf (s .actor) (h .ownAdds)
         above t = absurd (T-not (any (aboveOwnBase C s) ds) ok
             (any-member (aboveOwnBase C s) ds k (T-and (isEq (compareActors (s .actor) (s .actor))) (not (leb n (ownBase C s))) (pass (ap isEq (actors .self (s .actor)))) t)))
 
@@ -250,7 +277,7 @@ module _ (C : ClockModel) (L : ClockLaws C) where
       fresh-unseen = λ e k. T-not (seen C s (e .dot)) ((new e k) .2);
       not-own-context = apart;
       own-kept = omega arith;
-      own-reached = λ n k. inl k;
+      own-reached = λ b n k. inl k;
       own-offered = λ n k. own-limit (offered ++ contextOf m) (checked .1) n (all-offered n (List·Memᴰ·append-cases (map entryDot fresh) k));
     }
       where
@@ -284,15 +311,15 @@ module _ (C : ClockModel) (L : ClockLaws C) where
         apart e k c = not-member compareDots dots context (checked .1) (Memᴰ·cast (ap entryDot (sym (List·Memᴰ·eq-of-singleton k))) c)
 
     own-addition : (l : Label) (context : Context) → T (mayAdd C s (entry l (nextDot C s) ∷ []) (nextDot C s) [] context)
-        → Absorbable s h (add l (nextDot C s) context) (entry l (nextDot C s) ∷ []) (h .ownAdds + 1)
+        → Absorbable s h (add l (nextDot C s) context) (entry l (nextDot C s) ∷ []) (h .actor ∷ h .ownAdds)
     own-addition l context may = record {
       fits = (T-both (C .fits (s .clock) (joining C s fresh context)) (not (any (aboveOwnBase C s) context)) (checked .0)) .0;
       fresh-paired = λ e k. k;
       paired-fresh = λ e k. inl k;
       fresh-unseen = λ e k t. L .run-ends (s .clock) (inv .well) (s .actor) (subst (λ (d : Dot). T (seen C s d)) (is-next k) t);
       not-own-context = λ e k c. not-member compareDots dots context (checked .1) (Memᴰ·cast (sym (is-next k)) c);
-      own-kept = omega arith;
-      own-reached = λ n k. ⊎-map (ltb→lt n (h .ownAdds)) (λ t. (l, List·Memᴰ·head (last n k t))) (decide (ltb n (h .ownAdds)));
+      own-kept = let g = one-more in omega arith;
+      own-reached = reached;
       own-offered = λ n k. offered n (List·Memᴰ·append-cases (map entryDot fresh) k);
     }
       where
@@ -305,24 +332,46 @@ module _ (C : ClockModel) (L : ClockLaws C) where
         is-next : {e : Entry} → e ∈ entry l (nextDot C s) ∷ [] → e .dot ≡ nextDot C s
         is-next k = ap entryDot (List·Memᴰ·eq-of-singleton k)
 
-        last : (n : ℕ) → n < h .ownAdds + 1 → T (not (ltb n (h .ownAdds))) → entry l (dotOf (s .actor) (n + 1)) ≡ entry l (nextDot C s)
-        last n k t = ap (λ j. entry l (dotOf (s .actor) (j + 1))) (let b = own-base inv in let r = nltb→le n (h .ownAdds) t in omega arith)
+        one-more : addsOf (s .actor) (h .actor ∷ h .ownAdds) ≡ addsOf (s .actor) (h .ownAdds) + 1
+        one-more = adds-more (s .actor) (h .actor) (h .ownAdds) (ap isEq (ap (compareActors (s .actor)) (sym (inv .actor-is)) ∙ actors .self (s .actor)))
 
-        offered : (n : ℕ) → (dotOf (s .actor) n ∈ map entryDot fresh) ⊎ (dotOf (s .actor) n ∈ keep (unseen C s) context) → n ≤ h .ownAdds + 1
-        offered n (inl k) = let q = ap (λ (d : Dot). d .counter .number) (List·Memᴰ·eq-of-singleton k) in let b = own-base inv in omega arith
+        -- of the own actor the next dot, of any other what there was
+        reached : (b : Actor) (n : ℕ) → n < addsOf b (h .actor ∷ h .ownAdds) → (n < addsOf b (h .ownAdds)) ⊎ ((l′ : Label) × (entry l′ (dotOf b (n + 1)) ∈ fresh))
+        reached b n k = by (isEq (compareActors b (h .actor))) refl (decide (ltb n (addsOf b (h .ownAdds))))
+          where
+            next : isEq (compareActors b (h .actor)) ≡ true → T (not (ltb n (addsOf b (h .ownAdds)))) → entry l (dotOf b (n + 1)) ≡ entry l (nextDot C s)
+            next e t =
+                let own : b ≡ s .actor = actors .tie b (h .actor) (tie-is (compareActors b (h .actor)) (pass e)) ∙ sym (inv .actor-is) in
+                let r = nltb→le n (addsOf b (h .ownAdds)) t in
+                let g = adds-more b (h .actor) (h .ownAdds) e in
+                let q = ap (λ (x : Actor). addsOf x (h .ownAdds)) own in
+                let o = own-base inv in
+                let p : n ≡ ownBase C s = omega arith in
+                λ i. entry l (dotOf (own i) (p i + 1))
+
+            by : (same : Bool) → isEq (compareActors b (h .actor)) ≡ same → T (ltb n (addsOf b (h .ownAdds))) ⊎ T (not (ltb n (addsOf b (h .ownAdds))))
+                → (n < addsOf b (h .ownAdds)) ⊎ ((l′ : Label) × (entry l′ (dotOf b (n + 1)) ∈ fresh))
+            by same e (inl t) = inl (ltb→lt n (addsOf b (h .ownAdds)) t)
+            by true e (inr t) = inr (l, List·Memᴰ·head (next e t))
+            by false e (inr t) = let g = adds-more b (h .actor) (h .ownAdds) e in inl (omega arith)
+
+        offered : (n : ℕ) → (dotOf (s .actor) n ∈ map entryDot fresh) ⊎ (dotOf (s .actor) n ∈ keep (unseen C s) context) → n ≤ addsOf (s .actor) (h .actor ∷ h .ownAdds)
+        offered n (inl k) = let q = ap (λ (d : Dot). d .counter .number) (List·Memᴰ·eq-of-singleton k) in let b = own-base inv in let g = one-more in omega arith
         offered n (inr k) =
             let ok = (T-both (C .fits (s .clock) (joining C s fresh context)) (not (any (aboveOwnBase C s) context)) (checked .0)) .1 in
             let r = own-limit context ok n ((keep-member (unseen C s) context k) .0) in
+            let g = one-more in
             omega arith
 
     -- every accepted call keeps the invariant
-    pub call-keeps : (c : Call) → T (allowed C s c) → Invariant a (effect C s c) (noted a h c)
-    unfolding effect allowed messagesOf countOwnAdd
+    pub call-keeps : (c : Call) → T (allowed C s c) → Invariant (effect C s c) (noted h c)
+    unfolding effect allowed messagesOf noteActor noteOwnAdd
     call-keeps (ownAdd l context) may =
-        subst (λ (d : Dot). Invariant a (apply C s (entry l (nextDot C s) ∷ []) context) (record { ownAdds = h .ownAdds + 1; messages = add l d context ∷ h .messages })) (next-dot inv)
+        subst (λ (d : Dot). Invariant (apply C s (entry l (nextDot C s) ∷ []) context) (record { actor = h .actor; ownAdds = h .actor ∷ h .ownAdds; messages = add l d context ∷ h .messages })) (next-dot inv)
         (applied inv (own-addition l context may))
     call-keeps (ownRemove context) may = applied inv (removal context may)
     call-keeps (takeIn (add l d context)) may = applied inv (addition l d context may)
     call-keeps (takeIn (remove context)) may = applied inv (removal context may)
     call-keeps reads may = inv
     call-keeps compact may = compaction-keeps inv
+    call-keeps (handOff b) may = hand-off-keeps inv b may

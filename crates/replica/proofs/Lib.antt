@@ -1,4 +1,4 @@
--- Cases: slips, compactions and merges as runs of the machine. Shrinking: dropping keys leaves the listing. Invariant: what ties a state to the rule's sets, and that every accepted call keeps it. Listings: the rule's listing.
+-- Cases: slips, compactions, hand-offs and merges as runs of the machine. Shrinking: dropping keys leaves the listing. Invariant: what ties a state to the rule's sets, and that every accepted call keeps it. Listings: the rule's listing.
 -- Merges: the merge of two reads. Walk: two ascending lists walked side by side. Theorems: demand 3.
 -- Matching: tests of labels, of entries and of lines. Pages: pages of a listing. RowClock: demand 3 over the clock of 16 rows. Instance: the machine as a controller.
 pub mod Cases

@@ -4,15 +4,15 @@ use mathlib.Core.Logic.{_↔_, _⊎_}
 use mathlib.Core.List.{List}
 use Prim.Native.Nat.{ℕ, _+_, _≤_}
 use native.Mathlib.Omega.{arith}
-use lib.Dec.{T}
+use lib.Dec.{T, eqb, eqb→eq}
 use lib.ListN.{length-replicate}
 use Rattle.wire.specs.Lists.{_∈_, sort}
-use Rattle.wire.proofs.Tests.{both-ways, pass, fail, holds}
+use Rattle.wire.proofs.Tests.{both-ways, pass, fail, holds, T-both}
 use Rattle.dots.specs.declared.Dot.{Dot}
 use Rattle.dots.specs.Dots.{actorOf, dotOf, compareDots}
 use Rattle.clock.specs.Row.{Row, windowWidth, seen}
-use Rattle.clock.specs.Clock.{rowAt, sees, joinAll, clockWords}
-use Rattle.clock.proofs.Rows.{seen-low, next-unseen, one-form}
+use Rattle.clock.specs.Clock.{zeroRow, rowAt, unused, sees, joinAll, clockWords}
+use Rattle.clock.proofs.Rows.{row-eq, seen-low, next-unseen, one-form}
 use Rattle.clock.proofs.Clocks.{Formed, row-empty, rows-eq, zero-formed, zero-unseen as zero-row-unseen, joinEach-formed, sorted-ready, join-sees}
 use Rattle.replica.specs.Clock.{ClockModel, ClockLaws}
 use Rattle.replica.specs.Machine.{Controller}
@@ -21,16 +21,25 @@ use Rattle.replica.specs.Read.{TwoRacks}
 use Rattle.replica.specs.RowClock.{rowClock}
 use Rattle.replica.proofs.Theorems.{follows-the-rule, replicas-agree, two-racks}
 
+pub unused-row : (words : List ℕ) (a : ℕ) → T (unused words a) → rowAt words a ≡ zeroRow
+unfolding unused
+unused-row words a t = let w = T-both (eqb (rowAt words a .base) 0) (eqb (rowAt words a .window) 0) t in row-eq (eqb→eq (rowAt words a .base) 0 (w .0)) (eqb→eq (rowAt words a .window) 0 (w .1))
+
+-- nothing is seen of an empty row
+pub empty-unseen : {r : Row} → r ≡ zeroRow → (n : ℕ) → T (seen r n) → ⊥
+empty-unseen e n t = fail (ap (λ (r : Row). seen r n) e ∙ zero-row-unseen n) t
+
 unfoldable pub rowClockLaws : (W : ℕ) → 1 ≤ W → ClockLaws (rowClock W)
 unfolding sees joinAll
 rowClockLaws W w = record {
   WellFormed = Formed W;
   zero-well = record { size = length-replicate {A = ℕ} clockWords 0; rows = λ a. rw (row-empty a) (zero-formed W) };
-  zero-unseen = λ d t. fail (ap (λ (r : Row). seen r (d .counter .number)) (row-empty (d .actor .number)) ∙ zero-row-unseen (d .counter .number)) t;
+  zero-unseen = λ d. empty-unseen (row-empty (d .actor .number)) (d .counter .number);
   join-well = λ words ds f t. joinEach-formed W words (sort compareDots ds) (sorted-ready W w words ds f t);
   join-sees = λ words ds f t d. join-sees W w words ds f t d;
   run-seen = λ words f a n h. pass (seen-low (rowAt words (a .number)) (n + 1) (omega arith) (omega arith));
   run-ends = λ words f a t. fail (next-unseen (f .rows (a .number))) t;
+  unused-unseen = λ words a t. empty-unseen (unused-row words (a .number) t);
   one-form = λ v w f g same. rows-eq v w (f .size) (g .size) (λ a.
       one-form (f .rows a) (g .rows a) (λ e.
       both-ways (seen (rowAt v a) e) (seen (rowAt w a) e)

@@ -6,7 +6,6 @@ use mathlib.Core.List.{List, [], _∷_, _++_, List·Memᴰ·not-nil, Memᴰ·app
 use lib.Dec.{T, not-T, isEq, eqb, eqb→eq}
 use Rattle.wire.specs.Lists.{_∈_, SameMembers, any, member}
 use Rattle.wire.specs.Bytes.{compareBytes}
-use Rattle.dots.specs.declared.Actor.{Actor}
 use Rattle.dots.specs.declared.Dot.{Dot}
 use Rattle.dots.specs.Names.{Label}
 use Rattle.dots.specs.Dots.{compareDots}
@@ -47,7 +46,7 @@ module _ (C : ClockModel) (s : State C) where
           any-member test (liveKeys C s) (w .1) (pass (ap isEq (ap (compareBytes l) (sym (w .2)) ∙ bytesLawful .self l)))
 
 -- what an invariant says of a state
-module _ (C : ClockModel) (L : ClockLaws C) {a : Actor} {s : State C} {h : History} (inv : Invariant C L a s h) where
+module _ (C : ClockModel) (L : ClockLaws C) {s : State C} {h : History} (inv : Invariant C L s h) where
   -- a live key was added and not removed
   pub live-sound : (e : Entry) → e ∈ liveKeys C s → (e ∈ pairs (h .messages)) × (e .dot ∈ removed (h .messages) → ⊥)
   live-sound e k =
@@ -64,7 +63,7 @@ module _ (C : ClockModel) (L : ClockLaws C) {a : Actor} {s : State C} {h : Histo
           (not-T (member compareDots (e .dot) (s .tombstone)) (λ t. n (inv .tombstoned-removed (e .dot) (member-sound compareDots dots (s .tombstone) t))))
 
 -- two states that stand for the same messages have the same live keys and the same clock
-module _ (C : ClockModel) (L : ClockLaws C) {a b : Actor} {s t : State C} {h k : History} (inv : Invariant C L a s h) (inv′ : Invariant C L b t k)
+module _ (C : ClockModel) (L : ClockLaws C) {s t : State C} {h k : History} (inv : Invariant C L s h) (inv′ : Invariant C L t k)
     (same : SameMembers (h .messages) (k .messages)) where
   pub equal-live-keys : OneLabelPerDot (pairs (h .messages)) → OneLabelPerDot (pairs (k .messages)) → liveKeys C s ≡ liveKeys C t
   equal-live-keys one two = live-keys C L inv one ∙ same-live same ∙ sym (live-keys C L inv′ two)
@@ -75,37 +74,37 @@ module _ (C : ClockModel) (L : ClockLaws C) {a b : Actor} {s t : State C} {h k :
 
 module _ (C : ClockModel) (L : ClockLaws C) (K : Controller C) where
   -- the history after a call
-  abbrev after : Actor → K .Held → History → K .Input → History
-  after a x h i = cond (accepts C K x i) (noted a h (K .callOf i)) h
+  abbrev after : K .Held → History → K .Input → History
+  after x h i = cond (accepts C K x i) (noted h (K .callOf i)) h
 
-  step-keeps : {a : Actor} {x : K .Held} {h : History} → Invariant C L a (K .view x) h → (i : K .Input) → Invariant C L a (K .view (K .step x i)) (after a x h i)
-  step-keeps {a} {x} {h} inv i = by-answer (accepts C K x i) refl
+  step-keeps : {x : K .Held} {h : History} → Invariant C L (K .view x) h → (i : K .Input) → Invariant C L (K .view (K .step x i)) (after x h i)
+  step-keeps {x} {h} inv i = by-answer (accepts C K x i) refl
     where
-      by-answer : (b : Bool) → accepts C K x i ≡ b → Invariant C L a (K .view (K .step x i)) (cond b (noted a h (K .callOf i)) h)
+      by-answer : (b : Bool) → accepts C K x i ≡ b → Invariant C L (K .view (K .step x i)) (cond b (noted h (K .callOf i)) h)
       by-answer true e =
           let done = eqb→eq (K .answer x i) 0 (pass e) in
           rw (K .does x i done) (call-keeps C L inv (K .callOf i) (K .guarded x i done))
       by-answer false e = rw (K .refuses x i (λ z. fail e (subst (λ n. T (eqb n 0)) (sym z) tt))) inv
 
-  run-keeps : {a : Actor} {x : K .Held} {h : History} → Invariant C L a (K .view x) h → (is : List (K .Input))
-      → Invariant C L a (K .view (run C K x is)) (historyFrom a h (events C K x is))
+  run-keeps : {x : K .Held} {h : History} → Invariant C L (K .view x) h → (is : List (K .Input))
+      → Invariant C L (K .view (run C K x is)) (historyFrom h (events C K x is))
   unfolding run events historyFrom
   run-keeps inv [] = inv
   run-keeps inv (i ∷ is) = run-keeps (step-keeps inv i) is
 
   -- the rule's messages are those taken in or written
-  step-messages : {a : Actor} {x : K .Held} {h : History} → Invariant C L a (K .view x) h → (i : K .Input) (m : Message)
-      → (m ∈ (after a x h i) .messages) ↔ ((m ∈ cond (accepts C K x i) (K .message x i) []) ⊎ (m ∈ h .messages))
-  step-messages {a} {x} {h} inv i m = by-answer (accepts C K x i) refl
+  step-messages : {x : K .Held} {h : History} → Invariant C L (K .view x) h → (i : K .Input) (m : Message)
+      → (m ∈ (after x h i) .messages) ↔ ((m ∈ cond (accepts C K x i) (K .message x i) []) ⊎ (m ∈ h .messages))
+  step-messages {x} {h} inv i m = by-answer (accepts C K x i) refl
     where
-      by-answer : (b : Bool) → accepts C K x i ≡ b → (m ∈ (cond b (noted a h (K .callOf i)) h) .messages) ↔ ((m ∈ cond b (K .message x i) []) ⊎ (m ∈ h .messages))
+      by-answer : (b : Bool) → accepts C K x i ≡ b → (m ∈ (cond b (noted h (K .callOf i)) h) .messages) ↔ ((m ∈ cond b (K .message x i) []) ⊎ (m ∈ h .messages))
       by-answer true e =
           let done = eqb→eq (K .answer x i) 0 (pass e) in
           rw (K .exchanges x i done, ap (λ (d : Dot). messagesOf d (K .callOf i)) (next-dot C L inv)) member-append
       by-answer false e = (inr, ⊎-elim (λ k. absurd (List·Memᴰ·not-nil k)) (λ k. k))
 
-  run-messages : {a : Actor} {x : K .Held} {h : History} → Invariant C L a (K .view x) h → (is : List (K .Input))
-      → (m : Message) → (m ∈ (historyFrom a h (events C K x is)) .messages) ↔ ((m ∈ traffic C K x is) ⊎ (m ∈ h .messages))
+  run-messages : {x : K .Held} {h : History} → Invariant C L (K .view x) h → (is : List (K .Input))
+      → (m : Message) → (m ∈ (historyFrom h (events C K x is)) .messages) ↔ ((m ∈ traffic C K x is) ⊎ (m ∈ h .messages))
   unfolding events historyFrom traffic
   run-messages inv [] m = (inr, ⊎-elim (λ k. absurd (List·Memᴰ·not-nil k)) (λ k. k))
   run-messages inv (i ∷ is) m = regroup member-append (run-messages (step-keeps inv i) is m) (step-messages inv i m)
@@ -127,12 +126,12 @@ module _ (C : ClockModel) (L : ClockLaws C) (K : Controller C) where
   -- ---- of every life, whatever labels share a dot
 
   abbrev historyOf : Life C K → History
-  historyOf c = historyFrom (c .actor) noHistory (events C K (c .start) (c .calls))
+  historyOf c = historyFrom (noHistory (c .actor)) (events C K (c .start) (c .calls))
 
-  begins : (c : Life C K) → Invariant C L (c .actor) (K .view (c .start)) noHistory
+  begins : (c : Life C K) → Invariant C L (K .view (c .start)) (noHistory (c .actor))
   begins c = rw (c .fresh) (at-start C L (c .actor))
 
-  pub life-keeps : (c : Life C K) → Invariant C L (c .actor) (K .view (endOf C K c)) (historyOf c)
+  pub life-keeps : (c : Life C K) → Invariant C L (K .view (endOf C K c)) (historyOf c)
   life-keeps c = run-keeps (begins c) (c .calls)
 
   -- the rule's messages are the traffic
@@ -154,7 +153,7 @@ module _ (C : ClockModel) (L : ClockLaws C) (K : Controller C) where
     compaction-empties = λ i z. compaction-empties z;
   }
     where
-      inv : Invariant C L (c .actor) (K .view (endOf C K c)) (historyOf c)
+      inv : Invariant C L (K .view (endOf C K c)) (historyOf c)
       inv = life-keeps c
 
   pub replicas-agree : ReplicasAgree C K
@@ -166,10 +165,10 @@ module _ (C : ClockModel) (L : ClockLaws C) (K : Controller C) where
     same-keys = λ single i j y z. ap (λ (s : State C). s .keys) (compaction-does y) ∙ keys single ∙ sym (ap (λ (s : State C). s .keys) (compaction-does z));
   }
     where
-      inv : Invariant C L (c .actor) (K .view (endOf C K c)) (historyOf c)
+      inv : Invariant C L (K .view (endOf C K c)) (historyOf c)
       inv = life-keeps c
 
-      inv′ : Invariant C L (d .actor) (K .view (endOf C K d)) (historyOf d)
+      inv′ : Invariant C L (K .view (endOf C K d)) (historyOf d)
       inv′ = life-keeps d
 
       alike : SameMembers (accepted C K c) (accepted C K d)

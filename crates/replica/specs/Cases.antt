@@ -1,6 +1,7 @@
--- Document 01's slips that would light the wrong bin (slip 4 is the clock's: `clock/specs`), and compactions, as runs of the machine; merges of two.
+-- Document 01's slips that would light the wrong bin (slip 4 is the clock's: `clock/specs`), compactions and hand-offs, as runs of the machine; merges of two.
 use Prim.Native.Nat.{ℕ}
-use mathlib.Core.List.{List, [], _∷_, _++_}
+use mathlib.Core.Bool.{true, false, cond}
+use mathlib.Core.List.{List, [], _∷_, _++_, map}
 use mathlib.Core.Path.{_≡_}
 use Rattle.dots.specs.declared.Dot.{Dot}
 use Rattle.dots.specs.Names.{Label}
@@ -9,7 +10,8 @@ use Rattle.dots.specs.Entries.{Entry, entry, Line, line}
 use Rattle.dots.specs.Message.{add, remove}
 use Rattle.clock.specs.Row.{windowWidth}
 use Rattle.replica.specs.Clock.{ClockModel}
-use Rattle.replica.specs.Machine.{Call, ownAdd, ownRemove, takeIn, compact, State, setUp, listing, effect}
+use Rattle.replica.specs.Machine.{Call, ownAdd, ownRemove, takeIn, compact, handOff, State, setUp, listing, effect, allowed}
+use Rattle.replica.specs.Rule.{Event, noHistory, historyFrom}
 use Rattle.replica.specs.Read.{readOf, mergedLines}
 use Rattle.replica.specs.RowClock.{rowClock}
 
@@ -25,10 +27,19 @@ B8 = 0x42 ∷ 0x38 ∷ []
 abbrev dot : ℕ → ℕ → Dot
 dot a n = dotOf (actorOf a) n
 
--- accepted calls, one after the other
+-- a call that is not allowed changes nothing
+abbrev pub stepped : State clock → Call → State clock
+stepped s c = cond (allowed clock s c) (effect clock s c) s
+
+-- calls, one after the other
 unfoldable pub run : State clock → List Call → State clock
 run s [] = s
-run s (c ∷ cs) = run (effect clock s c) cs
+run s (c ∷ cs) = run (stepped s c) cs
+
+-- all that the rule reads of them
+unfoldable pub events : State clock → List Call → List Event
+events s [] = []
+events s (c ∷ cs) = record { call = c; accepted = allowed clock s c } ∷ events (stepped s c) cs
 
 -- what is held and listed in the end
 pub record Shown : Type 0 where
@@ -67,6 +78,22 @@ pub record CompactionCases : Type 0 where
   -- a key whose dot is not in the tombstone stays
   pub live-stays : shown 1 (ownAdd B7 [] ∷ ownAdd B8 [] ∷ ownRemove (dot 1 1 ∷ []) ∷ compact ∷ [])
       ≡ record { keys = entry B8 (dot 1 2) ∷ []; tombstone = []; listing = line B8 (dot 1 2 ∷ []) ∷ [] }
+
+-- a hand-off, one to an actor of which an add was seen, and one more; each box that is in use makes an own add
+abbrev pub handOffs : List Call
+handOffs = ownAdd B7 [] ∷ handOff (actorOf 2) ∷ ownAdd B8 [] ∷ handOff (actorOf 1) ∷ handOff (actorOf 3) ∷ ownAdd B8 (dot 2 1 ∷ []) ∷ []
+
+abbrev pub handOffEvents : List Event
+handOffEvents = events (setUp clock (actorOf 1)) handOffs
+
+pub record HandOffCases : Type 0 where
+  -- an actor "whose row is empty (base and window 0)", else the hand-off is refused
+  pub answered : map (λ (e : Event). e .accepted) handOffEvents ≡ true ∷ true ∷ true ∷ false ∷ true ∷ true ∷ []
+  -- the box loaded last removes what the one before it added
+  pub goes-on : shown 1 handOffs
+      ≡ record { keys = entry B7 (dot 1 1) ∷ entry B8 (dot 2 1) ∷ entry B8 (dot 3 1) ∷ []; tombstone = dot 2 1 ∷ []; listing = line B7 (dot 1 1 ∷ []) ∷ line B8 (dot 3 1 ∷ []) ∷ [] }
+  -- by the rule, each of the three own adds is the first of its actor
+  pub counted : (historyFrom (noHistory (actorOf 1)) handOffEvents) .messages ≡ add B8 (dot 3 1) (dot 2 1 ∷ []) ∷ add B8 (dot 2 1) [] ∷ add B7 (dot 1 1) [] ∷ []
 
 -- ---- two racks: the first added B7 and B8; the second took in B7's add and its remove, in one case compacted, and has not seen B8's
 

@@ -19,6 +19,8 @@ pub record ClockModel : Type 1 where
   pub fits : Clock → List Dot → Bool
   -- all dots at once: one by one, in a bad order, they may not fit (case W3)
   pub joinAll : Clock → List Dot → Clock
+  -- an actor whose row is empty: nothing of it is seen
+  pub unused : Clock → Actor → Bool
 
 pub record ClockLaws (C : ClockModel) : Type 1 where
   pub WellFormed : C .Clock → Type 0
@@ -30,5 +32,6 @@ pub record ClockLaws (C : ClockModel) : Type 1 where
   -- events 1 to base are seen, and the next is not
   pub run-seen : (c : C .Clock) → WellFormed c → (a : Actor) (n : ℕ) → n < C .base c a → T (C .sees c (dotOf a (n + 1)))
   pub run-ends : (c : C .Clock) → WellFormed c → (a : Actor) → T (C .sees c (dotOf a (C .base c a + 1))) → ⊥
+  pub unused-unseen : (c : C .Clock) (a : Actor) → T (C .unused c a) → (n : ℕ) → T (C .sees c (dotOf a n)) → ⊥
   -- a set of seen dots has one form only
   pub one-form : (c c′ : C .Clock) → WellFormed c → WellFormed c′ → ((d : Dot) → T (C .sees c d) ↔ T (C .sees c′ d)) → c ≡ c′

@@ -64,8 +64,9 @@ module _ (C : ClockModel) (K : Controller C) where
     pub same-keys : OneLabelPerDot (pairs ms) → (i j : K .Input) → Compacts x i → Compacts y j
         → (K .view (K .step x i)) .keys ≡ (K .view (K .step y j)) .keys
 
-  -- a controller from its set-up on, with any calls
+  -- A controller's life: its set-up, and any calls after it. A hand-off is a call of it: the box that loads the image goes on where the writer stood.
   pub record Life : Type 0 where
+    -- at set-up
     pub actor : Actor
     pub start : K .Held
     pub fresh : K .view start ≡ setUp C actor
@@ -76,7 +77,7 @@ module _ (C : ClockModel) (K : Controller C) where
 
   -- the messages that the rule reads off the calls
   abbrev pub accepted : Life → List Message
-  accepted c = (historyFrom (c .actor) noHistory (events (c .start) (c .calls))) .messages
+  accepted c = (historyFrom (noHistory (c .actor)) (events (c .start) (c .calls))) .messages
 
   abbrev pub trafficOf : Life → List Message
   trafficOf c = traffic (c .start) (c .calls)

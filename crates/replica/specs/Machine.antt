@@ -21,6 +21,8 @@ pub data Call : Type 0 where
   -- a listing or a lookup
   reads : Call
   compact : Call
+  -- a box of another actor takes over by an image
+  handOff : Actor → Call
 
 -- the message that a call takes in or writes, given the dot that an own add takes
 unfoldable pub messagesOf : Dot → Call → List Message
@@ -29,6 +31,7 @@ messagesOf d (ownRemove context) = remove context ∷ []
 messagesOf d (takeIn m) = m ∷ []
 messagesOf d reads = []
 messagesOf d compact = []
+messagesOf d (handOff b) = []
 
 module _ (C : ClockModel) where
   pub record State : Type 0 where
@@ -85,6 +88,10 @@ module _ (C : ClockModel) where
     unfoldable pub compacted : State
     compacted = record { actor = s .actor; clock = s .clock; tombstone = []; keys = liveKeys }
 
+    -- the same state under another actor
+    unfoldable pub handedOff : Actor → State
+    handedOff b = record { actor = b; clock = s .clock; tombstone = s .tombstone; keys = s .keys }
+
     -- "each label with at least one stored key whose dot is not in the tombstone, ascending"
     unfoldable pub listing : List Line
     listing = linesOf liveKeys
@@ -100,6 +107,7 @@ module _ (C : ClockModel) where
     effect (takeIn (remove context)) = apply [] context
     effect reads = s
     effect compact = compacted
+    effect (handOff b) = handedOff b
 
     -- the message that an accepted call takes in or writes
     abbrev pub exchanged : Call → List Message
@@ -125,6 +133,7 @@ module _ (C : ClockModel) where
     allowed (takeIn (remove context)) = mayApply [] [] context
     allowed reads = true
     allowed compact = true
+    allowed (handOff b) = C .unused (s .clock) b
 
 -- The seam for the byte level: what a controller on bytes must show to be this machine.
 -- In short: each accepted call has the effect and exchanges the message,

@@ -4,7 +4,7 @@ use mathlib.Core.List.{List}
 use Prim.Native.Nat.{ℕ}
 use Rattle.wire.specs.Lists.{all}
 use Rattle.dots.specs.Dots.{dotOk}
-use Rattle.clock.specs.Clock.{rowAt, sees, joinAll, near, zeroClock}
+use Rattle.clock.specs.Clock.{rowAt, unused, sees, joinAll, near, zeroClock}
 use Rattle.replica.specs.Clock.{ClockModel}
 
 -- with windows of W bits
@@ -16,4 +16,5 @@ rowClock W = record {
   base = λ words a. rowAt words (a .number) .base;
   fits = λ words ds. all dotOk ds && near W words ds;
   joinAll = joinAll W;
+  unused = λ words a. unused words (a .number);
 }

@@ -3,49 +3,67 @@ use mathlib.Core.Bool.{Bool, not, cond}
 use mathlib.Core.List.{List, [], _∷_, _++_, flatMap}
 use mathlib.Core.Path.{_≡_}
 use Prim.Native.Nat.{ℕ, _+_}
+use lib.Dec.{isEq}
 use Rattle.wire.specs.Lists.{_∈_, keep, member, sort, Ascending}
 use Rattle.wire.specs.Bytes.{compareBytes}
 use Rattle.dots.specs.declared.Actor.{Actor}
 use Rattle.dots.specs.declared.Dot.{Dot}
 use Rattle.dots.specs.Names.{Label}
-use Rattle.dots.specs.Dots.{dotOf, compareDots}
+use Rattle.dots.specs.Dots.{dotOf, compareActors, compareDots}
 use Rattle.dots.specs.Entries.{Entry, entry, compareEntries, Line, linesOf, lineLabels, entriesOf}
 use Rattle.dots.specs.Message.{Message, contextOf, pairsOf}
-use Rattle.replica.specs.Machine.{Call, messagesOf, ownAdd, ownRemove, takeIn, reads, compact}
+use Rattle.replica.specs.Machine.{Call, messagesOf, ownAdd, ownRemove, takeIn, reads, compact, handOff}
 
 -- all that the rule reads of a call
 pub record Event : Type 0 where
   pub call : Call
   pub accepted : Bool
 
+-- "the loaded box's history as the writer's up to the image, each call answered as it was then, and after that its own"
 pub record History : Type 0 where
-  -- accepted own adds
-  pub ownAdds : ℕ
+  -- the actor now
+  pub actor : Actor
+  -- the actor of each accepted own add, the last first
+  pub ownAdds : List Actor
   -- messages taken in or written in accepted calls, the last first
   pub messages : List Message
 
-abbrev pub noHistory : History
-noHistory = record { ownAdds = 0; messages = [] }
+abbrev pub noHistory : Actor → History
+noHistory a = record { actor = a; ownAdds = []; messages = [] }
 
-unfoldable pub countOwnAdd : ℕ → Call → ℕ
-countOwnAdd n (ownAdd l context) = n + 1
-countOwnAdd n (ownRemove context) = n
-countOwnAdd n (takeIn m) = n
-countOwnAdd n reads = n
-countOwnAdd n compact = n
+-- how many own adds are an actor's
+unfoldable pub addsOf : Actor → List Actor → ℕ
+addsOf a [] = 0
+addsOf a (b ∷ bs) = addsOf a bs + cond (isEq (compareActors a b)) 1 0
 
--- One accepted call more. An own add's dot is "the controller's actor with the number of own adds that this controller has accepted under that actor
--- so far, this one included".
-abbrev pub noted : Actor → History → Call → History
-noted a h c = record {
-  ownAdds = countOwnAdd (h .ownAdds) c;
-  messages = messagesOf (dotOf a (h .ownAdds + 1)) c ++ h .messages;
-}
+-- An own add's dot: "the controller's actor with the number of own adds that this controller has accepted under that actor so far, this one included".
+abbrev pub nextOwn : History → Dot
+nextOwn h = dotOf (h .actor) (addsOf (h .actor) (h .ownAdds) + 1)
+
+unfoldable pub noteActor : Actor → Call → Actor
+noteActor a (ownAdd l context) = a
+noteActor a (ownRemove context) = a
+noteActor a (takeIn m) = a
+noteActor a reads = a
+noteActor a compact = a
+noteActor a (handOff b) = b
+
+unfoldable pub noteOwnAdd : History → Call → List Actor
+noteOwnAdd h (ownAdd l context) = h .actor ∷ h .ownAdds
+noteOwnAdd h (ownRemove context) = h .ownAdds
+noteOwnAdd h (takeIn m) = h .ownAdds
+noteOwnAdd h reads = h .ownAdds
+noteOwnAdd h compact = h .ownAdds
+noteOwnAdd h (handOff b) = h .ownAdds
+
+-- one accepted call more
+abbrev pub noted : History → Call → History
+noted h c = record { actor = noteActor (h .actor) c; ownAdds = noteOwnAdd h c; messages = messagesOf (nextOwn h) c ++ h .messages }
 
 -- "A refused call, a listing, a lookup or a compaction changes neither."
-unfoldable pub historyFrom : Actor → History → List Event → History
-historyFrom a h [] = h
-historyFrom a h (e ∷ es) = historyFrom a (cond (e .accepted) (noted a h (e .call)) h) es
+unfoldable pub historyFrom : History → List Event → History
+historyFrom h [] = h
+historyFrom h (e ∷ es) = historyFrom (cond (e .accepted) (noted h (e .call)) h) es
 
 -- The two sets: "pairs of label and dot, and removed dots". "An accepted add puts its pair in the first and its context's dots in the second;
 -- an accepted remove only puts its context's dots in the second."

@@ -4,13 +4,14 @@ use mathlib.Core.Logic.{⊎-elim}
 use mathlib.Core.Bool.{Bool, true, false, cond}
 use mathlib.Core.List.{List, [], _∷_, _++_}
 use Prim.Native.Nat.{ℕ, zero, suc, _+_, _-_, _*_, _/_, _≤_, _<_, Ordering, Ordering·lt, Ordering·eq, Ordering·gt}
-use native.Mathlib.Nat.{le-trans, sub-zero, zero-sub, suc-sub-suc}
+use native.Mathlib.Nat.{le-trans}
 use native.Mathlib.Omega.{arith}
 use lib.ListN.{length, take, drop, replicate, length-append, length-replicate}
 use lib.Seq.{drop-append-add}
 use Rattle.wire.specs.Lists.{consIf, all, keep, insert, insertAll, place}
 use Rattle.wire.proofs.Tests.{both-left, both-right}
 use Rattle.wire.proofs.Lists.{all-member, member-all, insert-member, ascending-insert}
+use Rattle.wire.proofs.Fields.{drop-zeros}
 use Rattle.dots.specs.declared.Dot.{Dot}
 use Rattle.dots.specs.Dots.{compareDots, dotOk, ascendingDots, tombstoneMost}
 use Rattle.dots.specs.Wire.{dotAt, dotsAt, dotsBytes, dotsOf, dotSize, tombstoneSize}
@@ -24,11 +25,6 @@ use Rattle.calls.specs.declared.Tombstone.{Tombstone}
 use Rattle.calls.specs.Effect.{padded, tombstoneOf}
 use Rattle.steps.specs.Tests.{Padded, ContextFits}
 use Rattle.calls.proofs.Reading.{tombstone-read}
-
-pub drop-zeros : (k n : ℕ) → drop k (replicate {A = ℕ} n 0) ≡ replicate (n - k) 0
-drop-zeros zero n = rw sub-zero
-drop-zeros (suc k) zero = rw zero-sub
-drop-zeros (suc k) (suc n) = drop-zeros k n ∙ rw suc-sub-suc
 
 -- padded bytes of a list of dots, and as many, are its tombstone
 pub tombstone-made : (bytes : List ℕ) (count : ℕ) (ds : List Dot) → Padded bytes count → dotsOf (take (count * dotSize) bytes) ≡ ds → _≡_ {A = Tombstone} (record { bytes = bytes; count = count }) (tombstoneOf ds)

@@ -2,11 +2,11 @@
 -- Back: a field read at a place, with the rest after it, is the place's rest. Assumes nothing.
 use mathlib.Core.Path.{_≡_, sym, ap, _∙_}
 use mathlib.Core.List.{List, _∷_, _++_, append-assoc}
-use Prim.Native.Nat.{ℕ, _+_, _^_, _≤_, _<_}
-use native.Mathlib.Nat.{add-zero, zero-add}
+use Prim.Native.Nat.{ℕ, zero, suc, _+_, _-_, _^_, _≤_, _<_}
+use native.Mathlib.Nat.{add-zero, zero-add, sub-zero, zero-sub, suc-sub-suc}
 use native.Mathlib.Decide.{decLt}
 use native.Mathlib.Omega.{arith}
-use lib.ListN.{length, take, drop, getD, length-drop, take-append-drop, length-take, length-append, List·getD-eq-default}
+use lib.ListN.{length, take, drop, getD, replicate, length-drop, take-append-drop, length-take, length-append, List·getD-eq-default}
 use lib.Seq.{take-at, drop-at, drop-drop, getD-drop, getD-take, length-take-le}
 use Rattle.wire.specs.Bytes.{AreBytes, bigEndian, fromBigEndian, numberAt, putAt}
 use Rattle.wire.proofs.Parts.{drop-step}
@@ -68,3 +68,20 @@ put-next s t u x y at next e n f fits =
 pub put-front : (s x : List ℕ) → putAt s 0 x ≡ x ++ drop (length x) s
 unfolding putAt
 put-front s x = rw zero-add
+
+-- the bytes of a number put at a place
+module _ (k : ℕ) (bytes : List ℕ) (at number : ℕ) (e : bytes ≡ bigEndian k number) where
+  pub number-ends : (r : ℕ) → r ≡ at + length bytes → r ≡ at + k
+  number-ends r f = f ∙ rw (e, length-bigEndian k number)
+
+  pub number-put : (s t : List ℕ) → t ≡ putAt s at bytes → t ≡ putAt s at (bigEndian k number)
+  number-put s t f = rw e at f
+
+-- bytes put at the front of zeros
+pub drop-zeros : (k n : ℕ) → drop k (replicate {A = ℕ} n 0) ≡ replicate (n - k) 0
+drop-zeros zero n = rw sub-zero
+drop-zeros (suc k) zero = rw zero-sub
+drop-zeros (suc k) (suc n) = drop-zeros k n ∙ rw suc-sub-suc
+
+pub put-zeros : (n : ℕ) (x t : List ℕ) → t ≡ putAt (replicate n 0) 0 x → t ≡ x ++ replicate (n - length x) 0
+put-zeros n x t e = e ∙ put-front (replicate n 0) x ∙ rw (drop-zeros (length x) n)

@@ -139,3 +139,18 @@ pub fn number_bytes(n: u64) -> [u8; 8]
         r1 as u8,
     ]
 }
+
+// A number in 4 bytes.
+pub fn four_bytes(n: u32) -> [u8; 4]
+    ensures { λ r. ⌜ r ≡ bigEndian 4 n ⌝ }
+{
+    let r3 = n % 16777216;
+    let r2 = r3 % 65536;
+    let r1 = r2 % 256;
+    [
+        (n / 16777216) as u8,
+        (r3 / 65536) as u8,
+        (r2 / 256) as u8,
+        r1 as u8,
+    ]
+}

@@ -14,3 +14,5 @@ pub const TOO_FAR: u8 = 10;
 pub const TOMBSTONE_FULL: u8 = 11;
 pub const STORE_FULL: u8 = 12;
 pub const OUTPUT_SHORT: u8 = 13;
+pub const BAD_CHECKSUM: u8 = 14;
+pub const ACTOR_TAKEN: u8 = 15;

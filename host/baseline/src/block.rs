@@ -36,6 +36,11 @@ pub fn clock_room(block: &Block) -> &[u8] {
     &block[STATE_CLOCK_AT..STATE_TOMBSTONE_AT]
 }
 
+/// Sets the bytes of the clock's rows.
+pub fn set_clock(block: &mut Block, rows: &[u8]) {
+    block[STATE_CLOCK_AT..STATE_TOMBSTONE_AT].copy_from_slice(rows);
+}
+
 /// Sets base and window of an actor that keeps its rule.
 pub fn set_row(block: &mut Block, actor: u8, base: u64, window: u64) {
     let at = STATE_CLOCK_AT + ROW_SIZE * (usize::from(actor) - 1);

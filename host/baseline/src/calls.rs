@@ -30,7 +30,7 @@ impl Wrote {
         Wrote { answer, written }
     }
 
-    fn of(result: Result<usize, u8>) -> Wrote {
+    pub(crate) fn of(result: Result<usize, u8>) -> Wrote {
         result.map_or_else(Wrote::refused, Wrote::done)
     }
 }

@@ -15,10 +15,12 @@ mod block;
 mod calls;
 mod check;
 mod clock;
+mod crc;
 mod dot;
 mod effect;
 mod fastest;
 mod form;
+mod image;
 mod keys;
 mod merging;
 mod message;
@@ -32,6 +34,7 @@ mod words;
 pub use answer::*;
 pub use block::Block;
 pub use calls::{set_up, Wrote};
+pub use crc::crc32;
 pub use fastest::Fastest;
 pub use keys::{read_key, write_key, KeyRead};
 pub use message::{read_message, MessageRead};
@@ -41,6 +44,7 @@ pub use tuned::Tuned;
 
 use calls::{compact, own_add, own_remove, take_in};
 use form::Form;
+use image::{load_image, write_image};
 use merging::merge;
 use reading::{list, lookup, page};
 
@@ -79,4 +83,6 @@ calls! {
     ) -> Listed;
     fn lookup(block: &Block, store: &[u8], label: &[u8]) -> Looked;
     fn compact(block: &mut Block, store: &mut [u8]) -> u8;
+    fn write_image(block: &Block, store: &[u8], out: &mut [u8]) -> Wrote;
+    fn load_image(actor: u8, image: &[u8], block: &mut Block, store: &mut [u8]) -> u8;
 }

@@ -21,12 +21,7 @@ pub struct Message<'a> {
 impl<'a> Message<'a> {
     /// Reads a message: answers 2, 3, 4, 5, 6.
     pub fn read(bytes: &'a [u8]) -> Result<Message<'a>, u8> {
-        let rest = bytes.strip_prefix(MARK).ok_or(NO_MARK)?;
-        if rest.len() < VERSION.len() {
-            return Err(NO_MARK);
-        }
-        let rest = rest.strip_prefix(VERSION).ok_or(BAD_VERSION)?;
-        let message = Message::cut(rest).ok_or(BAD_SHAPE)?;
+        let message = Message::cut(after_version(bytes)?).ok_or(BAD_SHAPE)?;
         message.judge()?;
         Ok(message)
     }
@@ -70,10 +65,7 @@ impl<'a> Message<'a> {
     /// Writes the message to bytes of its length.
     pub fn write(&self, out: &mut [u8]) {
         let kind = if self.add.is_some() { ADD } else { REMOVE };
-        let rest = put(out, MARK);
-        let rest = put(rest, VERSION);
-        let rest = put(rest, &[kind, self.name.len() as u8]);
-        let mut rest = put(rest, self.name);
+        let mut rest = put_head(out, kind, self.name);
         if let Some((label, dot)) = self.add {
             rest = put(rest, &[label.len() as u8]);
             rest = put(rest, label);
@@ -84,14 +76,31 @@ impl<'a> Message<'a> {
     }
 }
 
+/// What follows mark and version, in a message or an image: answers 2, 3.
+pub fn after_version(bytes: &[u8]) -> Result<&[u8], u8> {
+    let rest = bytes.strip_prefix(MARK).ok_or(NO_MARK)?;
+    if rest.len() < VERSION.len() {
+        return Err(NO_MARK);
+    }
+    rest.strip_prefix(VERSION).ok_or(BAD_VERSION)
+}
+
+/// Writes mark, version, kind and name to the front; what follows them.
+pub fn put_head<'a>(out: &'a mut [u8], kind: u8, name: &[u8]) -> &'a mut [u8] {
+    let rest = put(out, MARK);
+    let rest = put(rest, VERSION);
+    let rest = put(rest, &[kind, name.len() as u8]);
+    put(rest, name)
+}
+
 /// A byte that counts pieces of this size, and then the pieces; and what follows.
-fn counted(bytes: &[u8], size: usize) -> Option<(&[u8], &[u8])> {
+pub fn counted(bytes: &[u8], size: usize) -> Option<(&[u8], &[u8])> {
     let (count, rest) = bytes.split_first()?;
     rest.split_at_checked(usize::from(*count) * size)
 }
 
 /// Writes bytes to the front; what follows them.
-fn put<'a>(out: &'a mut [u8], bytes: &[u8]) -> &'a mut [u8] {
+pub fn put<'a>(out: &'a mut [u8], bytes: &[u8]) -> &'a mut [u8] {
     let (front, rest) = out.split_at_mut(bytes.len());
     front.copy_from_slice(bytes);
     rest

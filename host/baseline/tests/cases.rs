@@ -2,9 +2,9 @@
 
 use baseline::*;
 use limits::{
-    ACTOR_MAX, DOT_SIZE, KEY_MAX, MESSAGE_MAX, NUMBER_SIZE, PRINT_MAX, PRINT_MIN, ROW_SIZE,
-    STATE_ACTOR_AT, STATE_CLOCK_AT, STATE_COUNT_AT, STATE_NAME_AT, STATE_SIZE, STATE_TOMBSTONE_AT,
-    STATE_USED_AT, STORE_MAX,
+    ACTOR_MAX, CRC_SIZE, DOT_SIZE, IMAGE_FIXED, KEY_MAX, MESSAGE_MAX, NUMBER_SIZE, PRINT_MAX,
+    PRINT_MIN, ROW_SIZE, STATE_ACTOR_AT, STATE_CLOCK_AT, STATE_COUNT_AT, STATE_NAME_AT, STATE_SIZE,
+    STATE_TOMBSTONE_AT, STATE_USED_AT, STORE_MAX,
 };
 use std::fmt::Debug;
 use std::marker::PhantomData;
@@ -50,6 +50,11 @@ for_each_form! {
     a_dead_label_on_a_page
     merged_reads_of_two_racks
     merged_reads_of_either_side
+    an_image_byte_by_byte
+    an_image_loaded_and_written_again
+    images_that_are_none
+    images_whose_contents_break_a_rule
+    stores_and_actors_of_a_load
     a_tombstone_that_is_full
     a_tombstone_of_dots_without_keys
     slips
@@ -156,6 +161,24 @@ impl<F: Form> Rack<F> {
 
     fn lookup(&self, label: &[u8]) -> Looked {
         F::lookup(&self.block, &self.store, label)
+    }
+
+    /// An image in an output of this length; its answer and bytes.
+    fn image(&self, room: usize) -> (u8, Vec<u8>) {
+        let mut out = vec![FILL; room];
+        let wrote = F::write_image(&self.block, &self.store, &mut out);
+        self.written(self, wrote, out)
+    }
+
+    /// Loads an image. Refused, it leaves zeros and the store as it was; else the store past the
+    /// keys.
+    fn load(&mut self, actor: u8, image: &[u8]) -> u8 {
+        let before = self.store.clone();
+        let answer = F::load_image(actor, image, &mut self.block, &mut self.store);
+        let used = self.sizes().1 as usize;
+        assert_eq!(self.store[used..], before[used..]);
+        assert!(answer == 0 || self.block == [0; STATE_SIZE]);
+        answer
     }
 
     fn number(&self, at: usize) -> u64 {
@@ -561,6 +584,123 @@ fn merged_reads_of_either_side<F: Form>() {
     assert_eq!(Rack::<F>::new(1).merge(&Rack::new(2), 0), refused(0));
 }
 
+/// The bytes with their CRC after them.
+fn sealed(bytes: &[u8]) -> Vec<u8> {
+    [bytes, &crc32(bytes).to_be_bytes()].concat()
+}
+
+#[test]
+fn crc_of_the_documents_text_and_of_every_byte() {
+    assert_eq!(crc32(b"123456789"), 0xCBF4_3926);
+    assert_eq!(crc32(b""), 0);
+    let every_byte: Vec<u8> = (0..=255).collect();
+    assert_eq!(crc32(&every_byte), 0x2905_8C73);
+}
+
+/// The image of case A1's controller before its CRC.
+fn a1_image() -> Vec<u8> {
+    let head = bytes("50 54 4C 00 01 69 02 52 31 01");
+    let row = bytes("00 00 00 00 00 00 00 01");
+    let key = bytes("02 01 52 31 00 65 42 37 00 01 00 00 00 00 00 00 00 00 01");
+    [head, row, vec![0; 248], vec![0], vec![0, 0, 0, 19], key].concat()
+}
+
+fn an_image_byte_by_byte<F: Form>() {
+    let mut one = Rack::<F>::new(1);
+    let fresh = one.image(IMAGE_FIXED + 2);
+    assert_eq!((fresh.0, fresh.1.len()), (0, 275));
+    assert_eq!(one.add(B7, &[]).0, 0);
+    let image = [a1_image(), bytes("23 FE 6B CB")].concat();
+    assert_eq!(one.image(294), (0, image.clone()));
+    assert_eq!(one.image(400), (0, image));
+    assert_eq!(one.image(293), (13, vec![]));
+}
+
+/// A controller with three keys, a tombstone and rows of other actors.
+fn lived<F: Form>() -> Rack<F> {
+    let mut one = Rack::<F>::with_store(1, 100);
+    assert_eq!(one.add(B7, &[]).0, 0);
+    assert_eq!(one.add(b"B8", &[(1, 1)]).0, 0);
+    assert_eq!(one.take(&add_bytes(b"C", (2, 2), &[(5, 1)])), 0);
+    one
+}
+
+/// All is the writer's but the actor, and with it the CRC; then the new actor's own adds begin.
+fn an_image_loaded_and_written_again<F: Form>() {
+    let one = lived::<F>();
+    let (_, image) = one.image(400);
+    let mut other = Rack::<F>::with_store(9, 60);
+    assert_eq!(other.load(3, &image), 0);
+    let mut again = image[..image.len() - CRC_SIZE].to_vec();
+    again[9] = 3;
+    assert_eq!(other.image(400), (0, sealed(&again)));
+    assert_eq!(other.list(), one.list());
+    assert_eq!(other.block[1..], one.block[1..]);
+    other.store.resize(100, FILL);
+    assert_eq!(other.add(B7, &[]), (0, add_bytes(B7, (3, 1), &[])));
+    assert_eq!(other.take(&add_bytes(b"D", (1, 3), &[])), 0);
+    assert_eq!(other.take(&add_bytes(b"D", (3, 2), &[])), 8);
+}
+
+fn images_that_are_none<F: Form>() {
+    let image = sealed(&a1_image());
+    let load = |bytes: &[u8]| Rack::<F>::new(9).load(2, bytes);
+    assert_eq!(load(&image), 0);
+    for length in 0..image.len() {
+        assert_eq!(load(&image[..length]), if length < 5 { 2 } else { 4 });
+    }
+    assert_eq!(load(&[&image[..], &[0]].concat()), 4);
+    for (at, byte, answer) in [
+        (0, b'Q', 2),
+        (4, 2, 3),
+        (3, 1, 3),
+        (5, b'a', 4),
+        (5, b'j', 4),
+    ] {
+        let mut changed = a1_image();
+        changed[at] = byte;
+        assert_eq!(load(&sealed(&changed)), answer);
+    }
+    for bit in 0..8 * image.len() {
+        let mut changed = image.clone();
+        changed[bit / 8] ^= 1 << (bit % 8);
+        assert!([2, 3, 4, 14].contains(&load(&changed)), "{bit}");
+    }
+}
+
+/// Bytes of A1's image, what stands in their place under a right CRC, and the answer.
+fn images_whose_contents_break_a_rule<F: Form>() {
+    let load = |at: usize, byte: u8| {
+        let mut changed = a1_image();
+        changed[at] = byte;
+        Rack::<F>::new(9).load(2, &sealed(&changed))
+    };
+    let (name, actor, base, window, key) = (7, 9, 17, 25, 271);
+    assert_eq!([load(name, 0), load(actor, 0), load(actor, 17)], [5; 3]);
+    assert_eq!([load(name, b'S'), load(base, 0), load(window, 2)], [6; 3]);
+    assert_eq!([load(base, 2), load(base + 16 * 2, 1)], [0; 2]);
+    assert_eq!([load(key, 1), load(key + 6, 0), load(key + 18, 2)], [6; 3]);
+    for (count, answer) in [(1, 0), (128, 0), (129, 6), (255, 6)] {
+        let mut head = a1_image()[..266].to_vec();
+        head[base] = 255;
+        let dots = dots(&dots_of(1, 1..=count));
+        let image = [&head[..], &[count as u8], &dots, &[0; 4]].concat();
+        assert_eq!(Rack::<F>::new(9).load(2, &sealed(&image)), answer);
+    }
+}
+
+fn stores_and_actors_of_a_load<F: Form>() {
+    let (_, image) = lived::<F>().image(400);
+    let load = |actor, store| Rack::<F>::with_store(9, store).load(actor, &image);
+    // The writer's, those of a window and of a base alone, and such as are none.
+    assert_eq!([1, 2, 5, 0, 17].map(|actor| load(actor, 99)), [15; 5]);
+    assert_eq!([3, 16].map(|actor| load(actor, 99)), [0; 2]);
+    let used = lived::<F>().sizes().1 as usize;
+    assert_eq!([0, used - 1].map(|store| load(3, store)), [12; 2]);
+    assert_eq!([used, STORE_MAX].map(|store| load(3, store)), [0; 2]);
+    assert_eq!(load(3, STORE_MAX + 1), 1);
+}
+
 fn a_tombstone_that_is_full<F: Form>() {
     let mut one = Rack::<F>::new(1);
     for _ in 0..129 {
@@ -663,6 +803,7 @@ fn answers_1<F: Form>(mut harmed: Rack<F>) {
     assert_eq!(harmed.page(b"\0", 99), refused(1));
     assert_eq!(harmed.merge(&Rack::new(1), 99), (1, vec![], 0));
     assert_eq!(harmed.merge(&harmed, 0), (1, vec![], 0));
+    assert_eq!(harmed.image(0), (1, vec![]));
     let listed = F::list(&harmed.block, &harmed.store, &mut [FILL; 99]);
     assert_eq!((listed.answer, listed.written, listed.labels), (1, 0, 0));
 }

@@ -2,9 +2,10 @@
 
 use baseline::*;
 use limits::{
-    ACTORS, ACTOR_MAX, CONTEXT_DOTS_MAX, DOT_SIZE, KEY_MAX, LABEL_MAX, MESSAGE_MAX, NAME_MAX,
-    NUMBER_SIZE, PRINT_MAX, PRINT_MIN, ROW_SIZE, STATE_CLOCK_AT, STATE_COUNT_AT, STATE_SIZE,
-    STATE_TOMBSTONE_AT, STATE_USED_AT, TOMBSTONE_DOTS_MAX, WINDOW,
+    ACTORS, ACTOR_MAX, CONTEXT_DOTS_MAX, CRC_SIZE, DOT_SIZE, IMAGE_FIXED, KEY_MAX, LABEL_MAX,
+    MESSAGE_MAX, NAME_MAX, NUMBER_SIZE, PRINT_MAX, PRINT_MIN, ROW_SIZE, STATE_CLOCK_AT,
+    STATE_COUNT_AT, STATE_SIZE, STATE_TOMBSTONE_AT, STATE_USED_AT, TOMBSTONE_DOTS_MAX,
+    TOMBSTONE_SIZE, WINDOW,
 };
 use std::collections::BTreeSet;
 
@@ -115,6 +116,7 @@ struct Given {
     label: Vec<u8>,
     context: Vec<u8>,
     message: Vec<u8>,
+    image: Vec<u8>,
     out: usize,
 }
 
@@ -155,6 +157,11 @@ fn all_calls<F: Calls>(rack: &Rack, given: &Given) -> Vec<(String, Rack, Vec<u8>
             )
         });
     }
+    call(&|Rack { block, store }, out| format!("{:?}", F::write_image(block, store, out)));
+    call(&|Rack { block, store }, _| {
+        let answer = F::load_image(ACTOR_MAX, &given.image, block, store);
+        format!("load {answer}")
+    });
     call(&|Rack { block, store }, _| format!("{:?}", F::lookup(block, store, label)));
     call(&|Rack { block, store }, _| format!("{}", F::compact(block, store)));
     done
@@ -229,7 +236,9 @@ fn made(random: &mut Random) -> Made {
 /// Sets the rows of all actors; some of the dots that are then seen.
 fn set_clock(random: &mut Random, rack: &mut Rack) -> Vec<Dot> {
     let mut seen = vec![(1, 1)];
-    for actor in 1..=ACTOR_MAX {
+    // A box that loads an image may take the last one, if its row is empty.
+    let actors = ACTOR_MAX - random.below(2) as u8;
+    for actor in 1..=actors {
         let base = random.pick(&[1, 5, 300, 1 << 40, u64::MAX - WINDOW]);
         let window = if actor == 1 { 0 } else { random.next() & !1 };
         rack.set_row(actor, base, window);
@@ -264,10 +273,25 @@ fn given(random: &mut Random, made: &Made) -> Given {
     let dot = (random.between(2, ACTORS) as u8, random.next() % 400 + 1);
     Given {
         message: add(&made.name, &label, dot, &context),
+        image: image(random, &made.rack),
         label,
         context,
         out: random.pick(&[0, 40, MESSAGE_MAX, 5_000]),
     }
+}
+
+/// An image of a controller, in which a byte may be another, mostly under a right CRC.
+fn image(random: &mut Random, rack: &Rack) -> Vec<u8> {
+    let mut image = vec![0; IMAGE_FIXED + NAME_MAX + TOMBSTONE_SIZE + rack.store.len()];
+    let wrote = Plain::write_image(&rack.block, &rack.store, &mut image);
+    image.truncate(wrote.written - CRC_SIZE);
+    if random.below(3) > 0 {
+        let at = random.below(image.len());
+        image[at] = random.pick(&[0, 1, b'e', 0xFF]);
+    }
+    let right = u32::from(random.below(8) > 0);
+    image.extend((crc32(&image) ^ 1 ^ right).to_be_bytes());
+    image
 }
 
 #[test]
@@ -288,6 +312,9 @@ fn random_stores_get_the_same_from_all_forms() {
         answers.extend(plain.into_iter().map(|(said, _, _)| said));
     }
     assert!(answers.len() > 5_000, "{}", answers.len());
+    for answer in [0, 2, 3, 4, 5, 6, 14, 15] {
+        assert!(answers.contains(&format!("load {answer}")), "{answer}");
+    }
     assert!(added.iter().all(|number| *number > 100), "{added:?}");
 }
 

@@ -34,7 +34,7 @@ listed! {
     /// How far above its base a row of the clock reaches: the bits of its window.
     WINDOW: u64 = 64;
     /// The number of answers, which are 0 and up.
-    ANSWERS: usize = 14;
+    ANSWERS: usize = 16;
 
     /// Bytes of a number: a counter, a base, a length or a number of dots.
     NUMBER_SIZE: usize = 8;
@@ -55,6 +55,8 @@ listed! {
     CLOCK_SIZE: usize = ACTORS * ROW_SIZE;
     /// Bytes of the tombstone: room for the most dots.
     TOMBSTONE_SIZE: usize = TOMBSTONE_DOTS_MAX * DOT_SIZE;
+    /// The longest image.
+    IMAGE_MAX: usize = IMAGE_FIXED + NAME_MAX + TOMBSTONE_SIZE + STORE_MAX;
 
     /// Where the fields of a state block begin.
     STATE_ACTOR_AT: usize = 0;
@@ -82,6 +84,13 @@ pub const KEY_END: usize = 3 + NUMBER_SIZE;
 pub const MESSAGE_FRONT: usize = 5;
 /// Bytes of a message before its name: mark, version, kind and the name's length.
 pub const MESSAGE_HEAD: usize = MESSAGE_FRONT + 2;
+
+/// Bytes of the used length in an image, and of the CRC at its end.
+pub const IMAGE_USED_SIZE: usize = 4;
+pub const CRC_SIZE: usize = 4;
+/// Bytes of an image beside its name, its dots and its keys: mark, version, kind, the name's length,
+/// the writer's actor, the clock, the number of dots, the used length and the CRC.
+pub const IMAGE_FIXED: usize = MESSAGE_HEAD + 1 + CLOCK_SIZE + 1 + IMAGE_USED_SIZE + CRC_SIZE;
 
 /// Bytes of the number of a label's dots in a listing.
 pub const DOT_COUNT_SIZE: usize = 2;

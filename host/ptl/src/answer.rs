@@ -3,7 +3,8 @@
 use limits::{ANSWERS, STORE_MAX, TOMBSTONE_DOTS_MAX, WINDOW};
 use std::fmt;
 
-/// What a call answers. `Done` is 0; every other one is a refusal, which changes nothing.
+/// What a call answers. `Done` is 0; every other one is a refusal, which changes nothing (one of a
+/// set-up or a load leaves a state of zeros).
 #[derive(Clone, Copy, PartialEq, Eq, PartialOrd, Ord, Hash, Debug)]
 #[repr(u8)]
 pub enum Answer {
@@ -21,19 +22,22 @@ pub enum Answer {
     TombstoneFull = 11,
     StoreFull = 12,
     OutputShort = 13,
+    BadChecksum = 14,
+    ActorTaken = 15,
 }
 
 /// When each answer is given; `#` stands for the limit that the answer speaks of.
 const WORDS: [&str; ANSWERS] = [
     "done",
     "the state is damaged, or the store is longer than #",
-    "message under 5 bytes or wrong mark",
+    "message or image under 5 bytes or wrong mark",
     "version other than 1",
-    "a message's kind is unknown, its fields run past the end or bytes are left over; or bytes \
-     given as a key are none",
+    "a message's or image's kind is unknown, its fields run past the end or bytes are left over; \
+     or bytes given as a key are none",
     "set name, label, or an actor given to set-up or to a key, breaks its rule; or the label of \
-     an add does not print",
-    "a dot, a context or a key's counter breaks its rule, or an add's context has its own dot",
+     an add does not print; or an image's set name or writer's actor breaks its rule",
+    "a dot, a context or a key's counter breaks its rule, or an add's context has its own dot; or \
+     what else is in an image would be a damaged state",
     "message is for another set, or two controllers are of different sets",
     "an offered dot of this controller's own actor, but for the one an own add takes, is above \
      its own base",
@@ -41,8 +45,11 @@ const WORDS: [&str; ANSWERS] = [
     "among all seen and offered dots together, one lies more than # above its actor's unbroken \
      run from 1",
     "the tombstone would pass # dots",
-    "a key must be stored and used length + key length exceeds the store",
+    "a key must be stored and used length + key length exceeds the store; or an image's used \
+     length does",
     "the output buffer is shorter than what must be written",
+    "an image's CRC is wrong",
+    "the actor that is to load an image is none, is the writer's, or has a row that is not empty",
 ];
 
 impl Answer {
@@ -62,6 +69,8 @@ impl Answer {
         Answer::TombstoneFull,
         Answer::StoreFull,
         Answer::OutputShort,
+        Answer::BadChecksum,
+        Answer::ActorTaken,
     ];
 
     /// The answer of this number, if there is one.

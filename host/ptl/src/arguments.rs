@@ -20,8 +20,8 @@ compare   runs N random calls (200000) from the seed S (1) on the product and on
           the reference (or the baseline, or its tuned or fastest form), and stops at
           the first difference with a script of it; exit status 1 on a difference, and
           if N is at least 200000 and an answer that a call can give was not met
-simulate  plays a day of sixteen controllers and a bad radio from the seed S (1):
-          a line a phase, then which bins each lamp lights; --svg draws to FILE how
+simulate  plays a day of fifteen controllers, a spare one and a bad radio from the seed
+          S (1): a line a phase, then which bins each lamp lights; --svg draws to FILE how
           many agree over time, --quiet prints the last line alone; exit status 1 if
           a controller disagrees with the rule of what it accepted, or in the end
           with the rule of all messages

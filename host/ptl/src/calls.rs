@@ -289,6 +289,40 @@ pub fn compact(state: &mut State, store: &mut [u8]) -> u8 {
     }
 }
 
+/// Writing a hand-off image.
+pub fn write_image(state: &State, store: &[u8], out: &mut [u8]) -> Wrote {
+    let state = state.block();
+    let mut written = 0;
+    let answer = unsafe {
+        ffi::ptl_write_image(
+            state.as_ptr(),
+            state.len(),
+            store.as_ptr(),
+            store.len(),
+            out.as_mut_ptr(),
+            out.len(),
+            &mut written,
+        )
+    };
+    Wrote { answer, written }
+}
+
+/// Loading a hand-off image as this actor. A refusal too changes the state: to zero throughout.
+pub fn load_image(actor: u8, image: &[u8], state: &mut State, store: &mut [u8]) -> u8 {
+    let state = state.block_mut();
+    unsafe {
+        ffi::ptl_load_image(
+            actor,
+            image.as_ptr(),
+            image.len(),
+            state.as_mut_ptr(),
+            state.len(),
+            store.as_mut_ptr(),
+            store.len(),
+        )
+    }
+}
+
 /// Writing a key. The kind is `c`, `d`, `e` or `z`; another byte is answered 4.
 pub fn write_key(
     kind: u8,
@@ -438,6 +472,26 @@ mod tests {
             let f = &mut found;
             let looked = unsafe { ffi::ptl_lookup(s, size, t, 64, l, 2, f, &mut listed) };
             assert_eq!((looked, listed, found.at, found.len), (1, false, t, 0));
+        }
+    }
+
+    #[test]
+    fn images_leave_a_block_of_another_size() {
+        let sound = block(STATE_SIZE);
+        let mut image = [0; 275];
+        let mut w = 0;
+        let (s, o) = (sound.as_ptr(), image.as_mut_ptr());
+        let whole = unsafe { ffi::ptl_write_image(s, STATE_SIZE, s, 0, o, 275, &mut w) };
+        assert_eq!((whole, w), (0, 275));
+        for size in SIZES {
+            let (mut state, mut store, mut out) = (block(size), [FILL; 64], [FILL; 300]);
+            let (s, t, o) = (state.as_mut_ptr(), store.as_mut_ptr(), out.as_mut_ptr());
+            let mut w = 77;
+            let written = unsafe { ffi::ptl_write_image(s, size, t, 64, o, 300, &mut w) };
+            assert_eq!((written, w, out), (1, 0, [FILL; 300]));
+            let i = image.as_ptr();
+            let loaded = unsafe { ffi::ptl_load_image(2, i, 275, s, size, t, 64) };
+            assert_eq!((loaded, state, store), (1, block(size), [FILL; 64]));
         }
     }
 

@@ -4,7 +4,7 @@ use crate::answer::Answer;
 use crate::calls;
 use crate::kinds::{dots_of, dots_to_bytes, Actor, Dot, Label, SetName};
 use crate::state::State;
-use limits::{DOT_SIZE, MESSAGE_MAX};
+use limits::{DOT_SIZE, IMAGE_MAX, MESSAGE_MAX, STORE_MAX};
 
 /// A state with its store. All calls but the reading ones take it as `&mut`.
 #[derive(Clone, PartialEq, Eq, Debug)]
@@ -50,6 +50,14 @@ impl Controller {
     pub fn set_up(actor: Actor, name: &SetName, store: Vec<u8>) -> Result<Controller, Answer> {
         let mut state = State::zero();
         let answer = calls::set_up(actor.0, &name.0, &mut state);
+        Answer::give(answer, || Controller { state, store })
+    }
+
+    /// Loads the image of another controller into this store of any content: what the writer held, as
+    /// an actor that no box of the set has had.
+    pub fn load_image(actor: Actor, image: &[u8], store: Vec<u8>) -> Result<Controller, Answer> {
+        let (mut state, mut store) = (State::zero(), store);
+        let answer = calls::load_image(actor.0, image, &mut state, &mut store);
         Answer::give(answer, || Controller { state, store })
     }
 
@@ -127,6 +135,14 @@ impl Controller {
         bytes.truncate(done.written);
         let labels = done.labels;
         Answer::give(done.answer, || Listing { bytes, labels })
+    }
+
+    /// Writes a hand-off image, which another box can load. Never answers `OutputShort`.
+    pub fn write_image(&self) -> Result<Vec<u8>, Answer> {
+        let mut image = vec![0; IMAGE_MAX - STORE_MAX + self.store.len()];
+        let done = calls::write_image(&self.state, &self.store, &mut image);
+        image.truncate(done.written);
+        Answer::give(done.answer, || image)
     }
 
     /// Looks a label up.

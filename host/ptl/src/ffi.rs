@@ -107,6 +107,26 @@ extern "C" {
 
     pub fn ptl_compact(state: *mut u8, state_len: usize, store: *mut u8, store_len: usize) -> u8;
 
+    pub fn ptl_write_image(
+        state: *const u8,
+        state_len: usize,
+        store: *const u8,
+        store_len: usize,
+        out: *mut u8,
+        out_len: usize,
+        written: *mut usize,
+    ) -> u8;
+
+    pub fn ptl_load_image(
+        actor: u8,
+        image: *const u8,
+        image_len: usize,
+        state: *mut u8,
+        state_len: usize,
+        store: *mut u8,
+        store_len: usize,
+    ) -> u8;
+
     pub fn ptl_write_key(
         kind: u8,
         name: *const u8,

@@ -504,6 +504,89 @@ fn merged_reads_of_either_side() {
     }
 }
 
+/// A writer with two keys, of which one is removed, and a dot of actor 3 in its clock alone.
+fn writer() -> Controller {
+    let mut one = with_store(1, 100);
+    assert!(one.own_add(&b7(), &[]).is_ok());
+    assert!(one.own_add(&Label::from("B8"), &[dot(1, 1)]).is_ok());
+    assert!(one.own_remove(&[dot(3, 2)]).is_ok());
+    one
+}
+
+#[test]
+fn an_image_is_loaded_as_another_actor() {
+    let one = writer();
+    let image = one.write_image().expect("is sound");
+    let two = Controller::load_image(Actor(2), &image, vec![0xEE; 50]).expect("actor 2 is free");
+    assert_eq!(two.store()[..38], one.store()[..38]);
+    assert_eq!(two.store()[38..], [0xEE; 12]);
+    let mut state = two.state().clone();
+    state.set_actor(Actor(1));
+    assert_eq!(&state, one.state());
+    assert_eq!(listed(&two), listed(&one));
+    let again = two.write_image().expect("is sound");
+    let differ = (0..image.len()).filter(|at| image[*at] != again[*at]);
+    let differ: Vec<usize> = differ.collect();
+    assert!(differ[0] == 9 && differ[1..].iter().all(|at| *at >= image.len() - 4));
+}
+
+/// Own adds begin with 1 under the new actor; what the writer did since comes in as from any other.
+#[test]
+fn a_loaded_box_goes_on() {
+    let mut one = writer();
+    let image = one.write_image().expect("is sound");
+    let later = one.own_add(&Label::from("C"), &[dot(1, 2)]);
+    let mut two = Controller::load_image(Actor(2), &image, vec![0; 256]).expect("is free");
+    let own = two.own_add(&Label::from("A"), &[]).expect("there is room");
+    assert_eq!(own, add(b"A", dot(2, 1), &[]));
+    assert!(two.take_in(&later.expect("there is room")).is_ok());
+    assert!(one.take_in(&own).is_ok());
+    assert_eq!(listed(&one), listed(&two));
+    assert_eq!(
+        listed(&one),
+        [entry("A", &[dot(2, 1)]), entry("C", &[dot(1, 3)])]
+    );
+}
+
+#[test]
+fn loads_of_either_side() {
+    let image = writer().write_image().expect("is sound");
+    let load = |actor, image: &[u8], store| {
+        let done = Controller::load_image(Actor(actor), image, vec![0; store]);
+        done.err().unwrap_or(Answer::Done)
+    };
+    for (actor, answer) in [(2, Answer::Done), (16, Answer::Done)] {
+        assert_eq!(load(actor, &image, 38), answer);
+    }
+    for actor in [0, 1, 3, 17] {
+        assert_eq!(load(actor, &image, 38), Answer::ActorTaken, "{actor}");
+    }
+    assert_eq!(load(2, &image, 37), Answer::StoreFull);
+    assert_eq!(load(2, &image, STORE_MAX + 1), Answer::Damaged);
+    assert_eq!(load(2, b"PTX", 38), Answer::NoMark);
+    assert_eq!(load(2, b"PTL\x00\x02", 38), Answer::BadVersion);
+    assert_eq!(load(2, &image[1..], 38), Answer::NoMark);
+    assert_eq!(load(2, &image[..image.len() - 1], 38), Answer::BadShape);
+    for at in 6..image.len() {
+        let mut changed = image.clone();
+        changed[at] ^= 0x10;
+        let refused = [Answer::BadShape, Answer::BadChecksum];
+        assert!(refused.contains(&load(2, &changed, 38)), "{at}");
+    }
+}
+
+/// A refused load leaves zeros in the state and the store as it was.
+#[test]
+fn a_refused_load_leaves_the_store() {
+    let image = writer().write_image().expect("is sound");
+    let (mut state, mut store) = fresh(5).into_parts();
+    assert_eq!(
+        ptl::calls::load_image(1, &image, &mut state, &mut store),
+        15
+    );
+    assert_eq!((state, store), (State::zero(), vec![0xEE; 8192]));
+}
+
 #[test]
 fn a_tombstone_that_is_full() {
     let mut one = fresh(1);
@@ -600,6 +683,7 @@ fn any_state_is_answered() {
         assert_eq!(out, [fill; 300]);
         assert_eq!(any.lookup(&b7()), Err(Answer::Damaged));
         assert_eq!(any.merge(&fresh(1)), Err(Answer::Damaged));
+        assert_eq!(any.write_image(), Err(Answer::Damaged));
         assert_eq!(fresh(1).merge(&any), Err(Answer::Damaged));
         assert_eq!(any.compact(), Err(Answer::Damaged));
         assert_eq!(any, before);

@@ -2,8 +2,8 @@
 //! are the same, and so are the answers.
 
 use limits::{
-    ACTOR_MAX, CONTEXT_DOTS_MAX, HEADER, KEY_MAX, LABEL_MAX, MESSAGE_MAX, NAME_MAX, PRINT_MAX,
-    PRINT_MIN, STORE_MAX, TOMBSTONE_DOTS_MAX, WINDOW,
+    label_key_size, ACTOR_MAX, CONTEXT_DOTS_MAX, HEADER, IMAGE_MAX, KEY_MAX, LABEL_MAX,
+    MESSAGE_MAX, NAME_MAX, PRINT_MAX, PRINT_MIN, STORE_MAX, TOMBSTONE_DOTS_MAX, WINDOW,
 };
 use ptl::{Actor, Answer, Controller, Dot, Label, SetName};
 use std::collections::BTreeSet;
@@ -105,7 +105,7 @@ fn the_numbers_are_those_of_the_rules() {
         ("TOMBSTONE_DOTS_MAX", 128),
         ("STORE_MAX", 65_536),
         ("WINDOW", 64),
-        ("ANSWERS", 14),
+        ("ANSWERS", 16),
         ("NUMBER_SIZE", 8),
         ("DOT_SIZE", 9),
         ("CONTEXT_MAX", 576),
@@ -115,6 +115,7 @@ fn the_numbers_are_those_of_the_rules() {
         ("ROW_SIZE", 16),
         ("CLOCK_SIZE", 256),
         ("TOMBSTONE_SIZE", 1152),
+        ("IMAGE_MAX", 66_977),
         ("STATE_ACTOR_AT", 0),
         ("STATE_NAME_AT", 1),
         ("STATE_NAME_LENGTH_AT", 17),
@@ -253,6 +254,31 @@ fn the_product_takes_what_is_at_a_limit_and_refuses_what_is_past_it() {
         assert!(one.own_add(&Label(vec![byte]), &[]).is_ok(), "{byte:02X}");
     }
     assert_eq!(controller(STORE_MAX + 1).compact(), Err(Answer::Damaged));
+}
+
+/// The image of a full store and a full tombstone, under the longest name.
+#[test]
+fn the_products_longest_image() {
+    let mut writer = controller(STORE_MAX);
+    let number = STORE_MAX.div_ceil(KEY_MAX);
+    let end_of = |key: usize| STORE_MAX * key / number;
+    for key in 0..number {
+        let length = end_of(key + 1) - end_of(key) - label_key_size(NAME_MAX, 0);
+        let text = format!("{key:04}{:x<LABEL_MAX$}", "");
+        let label = Label::from(&text[..length]);
+        assert!(writer.own_add(&label, &[]).is_ok());
+    }
+    for context in dots(ACTOR_MAX, TOMBSTONE_DOTS_MAX).chunks(CONTEXT_DOTS_MAX) {
+        assert!(writer.own_remove(context).is_ok());
+    }
+    let image = writer.write_image().expect("is sound");
+    assert_eq!(image.len(), IMAGE_MAX);
+    let load = |image: &[u8], store| Controller::load_image(Actor(1), image, vec![0; store]);
+    assert!(load(&image, STORE_MAX).is_ok());
+    assert_eq!(load(&image, STORE_MAX - 1), Err(Answer::StoreFull));
+    assert_eq!(load(&image, STORE_MAX + 1), Err(Answer::Damaged));
+    let longer = [&image[..], &[0]].concat();
+    assert_eq!(load(&longer, STORE_MAX), Err(Answer::BadShape));
 }
 
 #[test]

@@ -36,17 +36,32 @@ fn five_days_end_with_all_boxes_agreed() {
         for phase in PHASES {
             assert!(line(&report, phase).len() > 8, "{phase}: {report}");
         }
-        assert_eq!(line(&report, "lunch")[7], "0/16", "{report}");
-        assert_eq!(line(&report, "evening")[7], "16/16", "{report}");
+        assert_eq!(line(&report, "lunch")[7], "0/15", "{report}");
+        assert_eq!(line(&report, "evening")[7], "15/15", "{report}");
         let last = report.lines().last().expect("a last line");
         assert!(last.starts_with("Seen: right after the move "), "{last}");
         assert!(
-            last.contains(", at the end 0; 16 of 16 list the "),
+            last.contains(", at the end 0; 15 of 15 list the "),
             "{last}"
         );
         assert!(!report.contains("DISAGREE"), "{report}");
         assert!(longest_context(&report) > 16, "{report}");
+        assert!(written_since_the_image(&report) > 0, "{report}");
     }
+}
+
+/// The number of messages that the box which died had written since its image, if the new one agrees.
+fn written_since_the_image(report: &str) -> usize {
+    let told = report.replace('\n', " ");
+    let (_, after) = told.split_once("\u{20}At noon box ").expect("told");
+    let (_, after) = after.split_once(" calls old. The ").expect("an image");
+    let (number, after) = after.split_once(" messages that box ").expect("a number");
+    let (after, _) = after.split_once('.').expect("an end");
+    assert!(
+        after.ends_with("; at the end it agrees with all"),
+        "{after}"
+    );
+    number.parse().expect("a number")
 }
 
 /// The number of dots in the longest context of a day.
@@ -65,7 +80,7 @@ fn every_box_lights_the_new_bin_of_the_gas_springs() {
     let rows: Vec<Vec<&str>> = rows
         .skip(1)
         .map(|row| row.split_whitespace().collect())
-        .take(16)
+        .take(15)
         .collect();
     for (row, number) in rows.iter().zip(1..) {
         assert_eq!(row[0], number.to_string());
@@ -74,7 +89,7 @@ fn every_box_lights_the_new_bin_of_the_gas_springs() {
         assert_eq!(row[2..4], ["C2", "C2"]);
         assert_eq!(row[row.len() - 2..], ["agrees", "agrees"]);
     }
-    assert_eq!(rows.len(), 16);
+    assert_eq!(rows.len(), 15);
     assert!(rows.iter().any(|row| row[1] == "B7"), "{report}");
 }
 

@@ -122,6 +122,7 @@ fn answers_have_their_numbers() {
              unbroken run from 1",
         ),
         (11, "the tombstone would pass 128 dots"),
+        (14, "an image's CRC is wrong"),
     ];
     for (number, expected) in all {
         assert_eq!(words(number).as_deref(), Some(expected));
@@ -135,6 +136,6 @@ fn answers_have_their_numbers() {
     }
     assert_eq!(
         Answer::NoMark.to_string(),
-        "2: message under 5 bytes or wrong mark"
+        "2: message or image under 5 bytes or wrong mark"
     );
 }

@@ -4,8 +4,9 @@
 use crate::answer::*;
 use crate::dot::{read_context, Actor, Dot};
 use crate::held::{Held, State};
+use crate::image;
 use crate::keys::{label_keeps_rule, label_prints, name_keeps_rule};
-use crate::limits::TOMBSTONE_DOTS_MAX;
+use crate::limits::{STORE_MAX, TOMBSTONE_DOTS_MAX};
 use crate::message::{parse, Message};
 use std::collections::{BTreeMap, BTreeSet};
 
@@ -119,6 +120,23 @@ pub fn page(state: &State, store: &[u8], start: &[u8], out: &mut [u8]) -> Paged 
     }
 }
 
+/// Writing a hand-off image: answers 1, 13. The bytes written.
+pub fn write_image(state: &State, store: &[u8], out: &mut [u8]) -> (u8, u64) {
+    match try_write_image(state, store, out) {
+        Ok(written) => (DONE, written),
+        Err(answer) => (answer, 0),
+    }
+}
+
+/// Loading a hand-off image into a lent store, as this actor: answers 1, 2, 3, 4, 14, 15, 5, 6, 12 in
+/// this order, and then gives the zero state.
+pub fn load_image(actor: u8, image: &[u8], store: &mut [u8]) -> (u8, State) {
+    match try_load_image(actor, image, store) {
+        Ok(state) => (DONE, state),
+        Err(answer) => (answer, State::zero()),
+    }
+}
+
 /// Lookup: answers 1, 5.
 pub fn lookup(state: &State, store: &[u8], label: &[u8]) -> Looked {
     match try_lookup(state, store, label) {
@@ -185,7 +203,7 @@ fn try_own_add(
         context,
     };
     let (next, state) = merged(&held, &message, store.len())?;
-    let written = write_out(&message, out)?;
+    let written = put_out(&message.bytes(), out)?;
     write_store(&next, store);
     Ok((state, written))
 }
@@ -205,7 +223,7 @@ fn try_own_remove(
         context,
     };
     let (_, state) = merged(&held, &message, store.len())?;
-    Ok((state, write_out(&message, out)?))
+    Ok((state, put_out(&message.bytes(), out)?))
 }
 
 fn try_take_in(state: &State, store: &mut [u8], message: &[u8]) -> Result<(State, u64), u8> {
@@ -272,6 +290,34 @@ fn try_page(
     Ok((bytes.len() as u64, labels, more))
 }
 
+fn try_write_image(state: &State, store: &[u8], out: &mut [u8]) -> Result<u64, u8> {
+    let held = Held::read(state, store).ok_or(DAMAGED)?;
+    put_out(&image::image_bytes(&held, &state.clock), out)
+}
+
+fn try_load_image(actor: u8, image: &[u8], store: &mut [u8]) -> Result<State, u8> {
+    if store.len() > STORE_MAX {
+        return Err(DAMAGED);
+    }
+    let image = image::parse(image)?;
+    let actor = Actor::new(actor).ok_or(ACTOR_TAKEN)?;
+    if actor.byte() == image.actor || image.row(actor.byte()) != [0, 0] {
+        return Err(ACTOR_TAKEN);
+    }
+    if !name_keeps_rule(image.name) || Actor::new(image.actor).is_none() {
+        return Err(BAD_NAME);
+    }
+    // The keys are judged as a store just as long as they are.
+    let writer = image.state().ok_or(BAD_DOT)?;
+    let mut held = Held::read(&writer, image.keys).ok_or(BAD_DOT)?;
+    if image.keys.len() > store.len() {
+        return Err(STORE_FULL);
+    }
+    held.actor = actor;
+    write_store(&held, store);
+    Ok(held.state(writer.clock))
+}
+
 fn try_lookup(state: &State, store: &[u8], label: &[u8]) -> Result<(u64, u64, bool), u8> {
     let held = Held::read(state, store).ok_or(DAMAGED)?;
     if !label_keeps_rule(label) {
@@ -329,10 +375,8 @@ fn live_in_both<'a>(one: &'a Held, two: &'a Held) -> Labels<'a> {
 /// Writes a listing to the front of the output, or answers 13: its length and number of labels.
 fn write_listing(listed: &Labels, out: &mut [u8]) -> Result<(u64, u64), u8> {
     let entries = listed.iter().map(|(label, dots)| entry(label, dots));
-    let bytes = entries.collect::<Vec<_>>().concat();
-    let place = out.get_mut(..bytes.len()).ok_or(OUTPUT_SHORT)?;
-    place.copy_from_slice(&bytes);
-    Ok((bytes.len() as u64, listed.len() as u64))
+    let written = put_out(&entries.collect::<Vec<_>>().concat(), out)?;
+    Ok((written, listed.len() as u64))
 }
 
 /// The bytes of a listed label: its length, itself, the number of its dots, the dots.
@@ -388,11 +432,10 @@ fn merged(held: &Held, message: &Message, store_length: usize) -> Result<(Held, 
     Ok((next, state))
 }
 
-/// Writes the message to the front of the output, or answers 13.
-fn write_out(message: &Message, out: &mut [u8]) -> Result<u64, u8> {
-    let bytes = message.bytes();
+/// Writes bytes to the front of the output, or answers 13: their number.
+fn put_out(bytes: &[u8], out: &mut [u8]) -> Result<u64, u8> {
     let place = out.get_mut(..bytes.len()).ok_or(OUTPUT_SHORT)?;
-    place.copy_from_slice(&bytes);
+    place.copy_from_slice(bytes);
     Ok(bytes.len() as u64)
 }
 

@@ -20,7 +20,7 @@ pub const STORE_MAX: usize = 65_536;
 /// How far above the unbroken run a window reaches.
 pub const WINDOW: u128 = 64;
 /// The number of answers, which are 0 and up.
-pub const ANSWERS: usize = 14;
+pub const ANSWERS: usize = 16;
 /// The largest counter.
 pub const COUNTER_MAX: u128 = u64::MAX as u128;
 

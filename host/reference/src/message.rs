@@ -41,12 +41,21 @@ pub fn read_message(bytes: &[u8]) -> MessageRead {
 
 /// The message, or the number of the refusal.
 pub fn parse(bytes: &[u8]) -> Result<Message, u8> {
+    judge(&parts(after_version(bytes)?).ok_or(BAD_SHAPE)?)
+}
+
+/// What stands after mark and version, of a message or an image; answers 2, 3.
+pub fn after_version(bytes: &[u8]) -> Result<&[u8], u8> {
     if bytes.len() < MARK.len() + VERSION_ONE.len() {
         return Err(NO_MARK);
     }
     let rest = bytes.strip_prefix(&MARK).ok_or(NO_MARK)?;
-    let rest = rest.strip_prefix(&VERSION_ONE).ok_or(BAD_VERSION)?;
-    judge(&parts(rest).ok_or(BAD_SHAPE)?)
+    rest.strip_prefix(&VERSION_ONE).ok_or(BAD_VERSION)
+}
+
+/// Mark and version, at the front of a message or an image.
+pub fn front() -> Vec<u8> {
+    [&MARK[..], &VERSION_ONE].concat()
 }
 
 /// The fields of a message as the length bytes cut them, not yet judged by their rules.
@@ -70,13 +79,13 @@ fn parts(bytes: &[u8]) -> Option<Parts<'_>> {
 }
 
 /// Takes a byte that counts pieces of `size` bytes, then the pieces.
-fn counted<'a>(rest: &mut &'a [u8], size: usize) -> Option<&'a [u8]> {
+pub fn counted<'a>(rest: &mut &'a [u8], size: usize) -> Option<&'a [u8]> {
     let count = cut(rest, 1)?[0];
     cut(rest, usize::from(count) * size)
 }
 
 /// Takes the next bytes, if there are as many.
-fn cut<'a>(rest: &mut &'a [u8], length: usize) -> Option<&'a [u8]> {
+pub fn cut<'a>(rest: &mut &'a [u8], length: usize) -> Option<&'a [u8]> {
     if rest.len() < length {
         return None;
     }
@@ -109,8 +118,7 @@ fn judge(parts: &Parts) -> Result<Message, u8> {
 impl Message {
     /// The bytes of the message.
     pub fn bytes(&self) -> Vec<u8> {
-        let mut bytes = MARK.to_vec();
-        bytes.extend(VERSION_ONE);
+        let mut bytes = front();
         bytes.push(if self.add.is_some() { ADD } else { REMOVE });
         bytes.push(self.name.len() as u8);
         bytes.extend(&self.name);

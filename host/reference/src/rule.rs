@@ -5,11 +5,12 @@ use crate::dot::{Actor, Dot};
 use crate::message::Message;
 use std::collections::{BTreeMap, BTreeSet};
 
-/// The two sets of the rule, and the number of own adds accepted so far.
+/// The two sets of the rule, and the number of own adds accepted so far under each actor that the
+/// controller had.
 #[derive(Clone, PartialEq, Eq, Debug)]
 pub struct Rule {
     actor: u8,
-    own_adds: u64,
+    own_adds: BTreeMap<u8, u64>,
     pairs: BTreeSet<(Vec<u8>, Dot)>,
     removed: BTreeSet<Dot>,
 }
@@ -28,17 +29,27 @@ impl Rule {
         assert!(Actor::new(actor).is_some(), "set-up accepts no such actor");
         Rule {
             actor,
-            own_adds: 0,
+            own_adds: BTreeMap::new(),
             pairs: BTreeSet::new(),
             removed: BTreeSet::new(),
         }
     }
 
-    /// An accepted own add. Its dot is the actor with the number of own adds accepted so far,
-    /// this one included.
+    /// The rule of a box that has loaded an image as this actor: its history is the writer's, of
+    /// which this rule was told up to the image, and after that its own.
+    pub fn handed_off(&self, actor: u8) -> Rule {
+        assert!(Actor::new(actor).is_some(), "a load accepts no such actor");
+        let mut handed = self.clone();
+        handed.actor = actor;
+        handed
+    }
+
+    /// An accepted own add. Its dot is the actor with the number of own adds accepted under it so
+    /// far, this one included.
     pub fn own_add(&mut self, label: &[u8], context: &[Dot]) {
-        self.own_adds += 1;
-        let dot = Dot::new(self.actor, self.own_adds);
+        let own_adds = self.own_adds.entry(self.actor).or_default();
+        *own_adds += 1;
+        let dot = Dot::new(self.actor, *own_adds);
         self.pairs.extend(dot.map(|dot| (label.to_vec(), dot)));
         self.removed.extend(context);
     }

@@ -16,7 +16,7 @@ fn sound() -> Bench {
 }
 
 /// The answers of all calls that take a state, each with arguments that it accepts.
-fn answers(bench: &Bench) -> [u8; 8] {
+fn answers(bench: &Bench) -> [u8; 9] {
     [
         bench.clone().add(b"A", &[]).0,
         bench.clone().remove(&[(3, 5)]).0,
@@ -25,6 +25,7 @@ fn answers(bench: &Bench) -> [u8; 8] {
         bench.page(b"", 100).0,
         bench.lookup(b"B7").answer,
         bench.merge(&sound()).0,
+        bench.image().0,
         bench.clone().compact(),
     ]
 }
@@ -33,11 +34,12 @@ fn answers(bench: &Bench) -> [u8; 8] {
 fn is_damage(what: &str, change: impl Fn(&mut Bench)) {
     let mut bench = sound();
     change(&mut bench);
-    assert_eq!(answers(&bench), [1; 8], "{what}");
+    assert_eq!(answers(&bench), [1; 9], "{what}");
     assert_eq!(bench.clone().add_bytes(b"", &[0], 0).0, 1, "{what}");
     assert_eq!(bench.clone().remove_bytes(&[0], 0).0, 1, "{what}");
     assert_eq!(bench.clone().take(b""), 1, "{what}");
     assert_eq!(bench.page(&[0], 0).0, 1, "{what}");
+    assert_eq!(bench.image_into(0).0, 1, "{what}");
     let other = Bench {
         state: set_up(2, b"other").1,
         store: Vec::new(),
@@ -52,7 +54,7 @@ fn is_damage(what: &str, change: impl Fn(&mut Bench)) {
 fn is_sound(what: &str, change: impl Fn(&mut Bench)) {
     let mut bench = sound();
     change(&mut bench);
-    assert_eq!(answers(&bench), [0; 8], "{what}");
+    assert_eq!(answers(&bench), [0; 9], "{what}");
 }
 
 #[test]

@@ -89,6 +89,7 @@ fn nothing_stops_and_nothing_is_damaged() {
         }
         let was_sound = bench.list().0 == 0;
         assert_eq!(bench.lookup(b"B7").answer == 0, was_sound);
+        assert_eq!(bench.image().0 == 0, was_sound);
         let answer = call(&mut random, &mut bench);
         assert_eq!(answer == 1, !was_sound);
         assert_eq!(bench.list().0 == 0, was_sound);

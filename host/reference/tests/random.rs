@@ -1,7 +1,7 @@
 //! Demand 3 over random sequences: several controllers exchange messages that are shuffled,
-//! repeated, lost and cut; after each call, calls and rule are compared, and a merged read of two
-//! with the rule over both. Then everything that was sent is delivered, and controllers that
-//! accepted the same messages must agree.
+//! repeated, lost and cut, and are swapped for others that load an image; after each call, calls and
+//! rule are compared, and a merged read of two with the rule over both. Then everything that was sent
+//! is delivered, and controllers that accepted the same messages must agree.
 mod common;
 use common::*;
 use reference::limits::CONTEXT_DOTS_MAX;
@@ -15,6 +15,8 @@ const ROOMS: [usize; 3] = [25, 60, 20_000];
 /// The actors that run as controllers; actor 9 only exists in stray messages.
 const ACTORS: [u8; 4] = [1, 2, 7, 16];
 const STRAY: u8 = 9;
+/// The actors that controllers take which load an image, each once.
+const FREE: [u8; 11] = [3, 4, 5, 6, 8, 10, 11, 12, 13, 14, 15];
 
 /// How often each call gave each answer.
 type Tally = BTreeMap<(&'static str, u8), u64>;
@@ -26,10 +28,20 @@ struct Node {
     accepted: BTreeSet<Vec<u8>>,
 }
 
+/// An image, with the rule of its writer and the messages that it had accepted or written by then.
+#[derive(Clone)]
+struct Kept {
+    image: Vec<u8>,
+    rule: Rule,
+    accepted: BTreeSet<Vec<u8>>,
+}
+
 /// All controllers, all messages sent so far, and the calls' tally.
 struct World {
     nodes: Vec<Node>,
     sent: Vec<Vec<u8>>,
+    images: Vec<Kept>,
+    free: Vec<u8>,
     random: Xorshift,
     /// True if contexts may name any dots and stray adds may come in.
     wild: bool,
@@ -46,6 +58,8 @@ impl World {
         World {
             nodes: ACTORS.into_iter().map(node).collect(),
             sent: Vec::new(),
+            images: Vec::new(),
+            free: FREE.to_vec(),
             random: Xorshift(seed),
             wild,
             tally: Tally::new(),
@@ -76,6 +90,8 @@ impl World {
             25..=36 => self.own_remove(at),
             37..=41 => self.compact(at),
             42..=49 if self.wild => self.stray(at),
+            50..=52 => self.write_image(at),
+            53..=54 => self.swap(at),
             _ => self.deliver(at),
         }
         self.nodes[at].agrees();
@@ -158,6 +174,46 @@ impl World {
     fn compact(&mut self, at: usize) {
         let answer = self.nodes[at].bench.compact();
         *self.tally.entry(("compaction", answer)).or_default() += 1;
+    }
+
+    /// A controller writes an image, which is kept with what demand 3 says of it.
+    fn write_image(&mut self, at: usize) {
+        let node = &self.nodes[at];
+        let (answer, image) = node.bench.image();
+        assert_eq!(answer, 0);
+        *self.tally.entry(("image", answer)).or_default() += 1;
+        self.images.push(Kept {
+            image,
+            rule: node.rule.clone(),
+            accepted: node.accepted.clone(),
+        });
+    }
+
+    /// A controller dies, and another takes its place from any image, as an actor that none had. Now
+    /// and then the image is cut on the way, or the store too short, and the controller stays.
+    fn swap(&mut self, at: usize) {
+        if self.images.is_empty() || self.free.is_empty() {
+            return;
+        }
+        let mut kept = self.random.pick(&self.images).clone();
+        if self.random.chance(20) {
+            kept.image
+                .truncate(self.random.below(kept.image.len() as u64) as usize);
+        }
+        let actor = self.free[0];
+        let length = *self.random.pick(&[0, 100, 4000, 4000, 4000]);
+        let mut bench = Bench::with_store(actor, length);
+        let answer = bench.load(actor, &kept.image);
+        *self.tally.entry(("load", answer)).or_default() += 1;
+        if answer == 0 {
+            self.free.remove(0);
+            let (rule, accepted) = (kept.rule.handed_off(actor), kept.accepted);
+            self.nodes[at] = Node {
+                bench,
+                rule,
+                accepted,
+            };
+        }
     }
 
     /// Some message sent before, any number of times, never or late; now and then cut.
@@ -359,6 +415,8 @@ fn honest_controllers() {
     met(&tally, "own remove", &[0, 13]);
     met(&tally, "taking in", &[0, 2, 4, 12]);
     met(&tally, "compaction", &[0]);
+    met(&tally, "load", &[0, 4, 12]);
+    assert!(tally[&("image", 0)] > 60 && tally[&("load", 0)] > 30);
     met(&tally, "merge, as one lists", &[0, 13]);
     met(&tally, "merge, as neither lists", &[0, 13]);
     assert!(tally[&("merge, as neither lists", 0)] > 300);
@@ -372,6 +430,7 @@ fn wild_controllers() {
     met(&tally, "own add", &[0, 6, 8, 10, 12, 13]);
     met(&tally, "own remove", &[0, 8, 10, 13]);
     met(&tally, "taking in", &[0, 2, 4, 8, 10, 12]);
+    met(&tally, "load", &[0, 4, 12]);
 }
 
 #[test]

@@ -15,7 +15,7 @@ const MARK: &str = "# ---- recording";
 const ASCENDING: &str = "# ==== Keys in ascending order, in each case";
 
 /// The answers that each call can give.
-const ANSWERS: [(&str, &[u8]); 12] = [
+const ANSWERS: [(&str, &[u8]); 14] = [
     ("setup", &[0, 5]),
     ("add", &[0, 1, 5, 6, 8, 9, 10, 11, 12, 13]),
     ("remove", &[0, 1, 6, 8, 10, 11, 13]),
@@ -25,6 +25,8 @@ const ANSWERS: [(&str, &[u8]); 12] = [
     ("merge", &[0, 1, 7, 13]),
     ("lookup", &[0, 1, 5]),
     ("compact", &[0, 1]),
+    ("image", &[0, 1, 13]),
+    ("load", &[0, 1, 2, 3, 4, 5, 6, 12, 14, 15]),
     ("key", &[0, 5, 6, 13]),
     ("readkey", &[0, 4]),
     ("readmessage", &[0, 2, 3, 4, 5, 6]),
@@ -72,7 +74,7 @@ fn answered() -> [Vec<(String, String)>; 2] {
 
 #[test]
 fn the_recording_is_what_record_writes() {
-    let words = ["stdin", "--seed", "1", "--calls", "1500"];
+    let words = ["stdin", "--seed", "1", "--calls", "1600"];
     let written = record(&words, Stdio::null());
     assert!(parts()[1] == written, "record {words:?} differs");
 }

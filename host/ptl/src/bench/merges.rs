@@ -1,16 +1,16 @@
 //! Merged reads of two large stores, and how much longer they take than the listings of both.
 
+use super::paired::Paired;
 use super::rounds::{differing_byte, first_difference, rounds, Workload};
-use super::single::{time, LABELS};
+use super::single::time;
 use super::starts::{alike, NAME};
 use super::stats::Summary;
-use super::table::{single_row, Row};
-use super::{floor, names, Plan, Sides, Stopped, SIDES};
+use super::table::Row;
+use super::{floor, Plan, Sides, Stopped, SIDES};
 use crate::engine::Engine;
 use crate::script::{Command, Rack, Reply};
 use limits::{label_key_size, STORE_MAX};
 use ptl::Controller;
-use std::io::Write;
 
 /// What reading two controllers takes, by the length of their labels.
 pub struct Merged {
@@ -27,7 +27,14 @@ fn two(label: usize) -> [Rack; 2] {
     alike(label, STORE_MAX / label_key_size(NAME.len(), label))
 }
 
-impl Merged {
+impl Paired for Merged {
+    const HEAD: &'static str = "
+Merged reads of two stores of 64 KiB, half of whose keys both have, in us, beside the listings of both.
+Merge has an output as long as both stores use; fit has one just as long as what is written. The ratios
+are merged read / both listings, all of it judged. All forms of the baseline have one walk over two stores,
+an ordinary one: they differ in judging, in the search for a label's end and in the look at the tombstones.
+label  side        listings      merge        fit   merge /    fit /";
+
     fn measure(sides: Sides, plan: Plan, label: usize) -> Result<Merged, Stopped> {
         let racks = two(label);
         let mut listings = [0.0; SIDES];
@@ -59,11 +66,10 @@ impl Merged {
         })
     }
 
-    pub fn rows(&self) -> [Row; 2] {
+    fn rows(&self) -> [Row; 2] {
         [self.ample.clone(), self.exact.clone()]
     }
 
-    /// The line of a side.
     fn line(&self, side: usize, name: &str) -> String {
         let listings = self.listings[side];
         let merges = [&self.ample, &self.exact].map(|row| row.summary.minima[side]);
@@ -72,38 +78,6 @@ impl Merged {
         let ratios = merges.map(|time| format!("{:>9.2}", time / listings));
         format!("{:>5}  {name:<9}{times}{}", self.label, ratios.concat())
     }
-}
-
-/// Measures, and writes the lines of single calls.
-pub fn measure(sides: Sides, plan: Plan, report: &mut dyn Write) -> Result<Vec<Merged>, Stopped> {
-    let mut all = Vec::new();
-    for label in LABELS {
-        let merged = Merged::measure(sides, plan, label)?;
-        for row in merged.rows() {
-            single_row(&row, report)?;
-        }
-        all.push(merged);
-    }
-    Ok(all)
-}
-
-/// What stands above the lines.
-const HEAD: &str = "
-Merged reads of two stores of 64 KiB, half of whose keys both have, in us, beside the listings of both.
-Merge has an output as long as both stores use; fit has one just as long as what is written. The ratios
-are merged read / both listings, all of it judged. All forms of the baseline have one walk over two stores,
-an ordinary one: they differ in judging, in the search for a label's end and in the look at the tombstones.
-label  side        listings      merge        fit   merge /    fit /";
-
-/// Writes the table of how much longer merged reads take than listings.
-pub fn table(sides: Sides, all: &[Merged], report: &mut dyn Write) -> Result<(), Stopped> {
-    writeln!(report, "{HEAD}")?;
-    for merged in all {
-        for (side, name) in names(sides).into_iter().enumerate() {
-            writeln!(report, "{}", merged.line(side, name))?;
-        }
-    }
-    Ok(())
 }
 
 /// The bytes that the merged read of two controllers takes.
@@ -165,6 +139,7 @@ impl Workload for Merge {
 
 #[cfg(test)]
 mod tests {
+    use super::super::single::LABELS;
     use super::*;
     use crate::engine::PLAIN;
     use std::collections::BTreeSet;

@@ -4,10 +4,12 @@
 mod contexts;
 mod data;
 mod floor;
+mod images;
 mod intake;
 mod merges;
 mod messages;
 mod pages;
+mod paired;
 mod pin;
 mod rounds;
 mod single;
@@ -18,8 +20,10 @@ mod table;
 mod tests;
 
 use crate::engine::Engine;
+use images::Images;
 use limits::STORE_MAX;
 use merges::Merged;
+use paired::Paired;
 use std::io::{self, Write};
 use table::Row;
 
@@ -90,11 +94,13 @@ fn tables(sides: Sides, plan: Plan, report: &mut dyn Write) -> Result<(), Stoppe
     let intake = intake_table(sides, plan, report)?;
     let singles = single_table(sides, plan, report)?;
     let pages = page_table(sides, plan, report)?;
-    let merges = merges::measure(sides, plan, report)?;
+    let merges: Vec<Merged> = paired::measure(sides, plan, report)?;
+    let images: Vec<Images> = paired::measure(sides, plan, report)?;
     table::growth(names, &singles, report)?;
     pages::whole_table(sides, plan, report)?;
     contexts::context_table(sides, plan, report)?;
-    merges::table(sides, &merges, report)?;
+    paired::table(sides, &merges, report)?;
+    paired::table(sides, &images, report)?;
     table::worst(names, "taking in", &intake, report)?;
     let full = |row: &&Row| row.used >= 15 * 1024;
     let full: Vec<Row> = singles.iter().filter(full).cloned().collect();
@@ -102,6 +108,8 @@ fn tables(sides: Sides, plan: Plan, report: &mut dyn Write) -> Result<(), Stoppe
     table::worst(names, "a page of ten labels", &pages, report)?;
     let merges: Vec<Row> = merges.iter().flat_map(Merged::rows).collect();
     table::worst(names, "a merged read", &merges, report)?;
+    let images: Vec<Row> = images.iter().flat_map(Images::rows).collect();
+    table::worst(names, "an image", &images, report)?;
     writeln!(report, "Answers and bytes were equal in every run.")?;
     Ok(())
 }

@@ -165,14 +165,25 @@ pub fn measure(
     size: usize,
 ) -> Result<Row, Stopped> {
     let start = start(label, size);
-    let used = start.rack.used();
-    let copies = copies(used);
     let command = call.command(&start);
-    let summary = time(sides, plan, &start.rack, vec![command], copies)?;
+    measure_on(sides, plan, &start.rack, command, (call.words(), label))
+}
+
+/// Measures one call on a controller, to be told of in these words, with labels of so many bytes.
+pub fn measure_on(
+    sides: Sides,
+    plan: Plan,
+    rack: &Rack,
+    command: Command,
+    (what, bytes): (&'static str, usize),
+) -> Result<Row, Stopped> {
+    let used = rack.used();
+    let copies = copies(used);
+    let summary = time(sides, plan, rack, vec![command], copies)?;
     let floor = floor::time(&vec![used; copies], plan.single_rounds);
     Ok(Row {
-        what: call.words(),
-        bytes: label,
+        what,
+        bytes,
         used,
         summary,
         floor: floor / copies as f64,

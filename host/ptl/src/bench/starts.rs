@@ -22,17 +22,23 @@ pub struct Start {
 /// A controller with as many keys of labels of this length as go in so many bytes, with room for
 /// one more.
 pub fn start(label: usize, size: usize) -> Start {
+    start_of(label, size, ACTORS)
+}
+
+/// The same with dots of so many actors; the rows of the others are empty.
+pub fn start_of(label: usize, size: usize, actors: usize) -> Start {
     let mut random = Random::new(label as u64);
     let length = label_key_size(NAME.len(), label);
     let number = (size / length).min(STORE_MAX / length - 1);
     let mut keys = Keys::new();
     for index in 0..number {
-        let dot = Dot::from(((index % ACTORS) as u8 + 1, (index / ACTORS) as u64 + 1));
+        let dot = Dot::from(((index % actors) as u8 + 1, (index / actors) as u64 + 1));
         keys.insert((label_of(&mut random, label), dot));
     }
-    let base = (number / ACTORS) as u64 + 1;
+    let most = (number / actors) as u64 + 1;
+    let base = |actor: u8| most * u64::from(usize::from(actor) <= actors);
     let middle = keys.iter().nth(number / 2).map(|(label, _)| label.clone());
-    let rack = rack(&keys, length, |_| base, 1);
+    let rack = rack(&keys, length, base, 1);
     let label = middle.unwrap_or_else(|| label_of(&mut random, label));
     Start { rack, label }
 }

@@ -116,7 +116,7 @@ fn passes(form: &dyn Engine) {
     let (passed, report) = said([&Product, PLAIN, form]);
     assert!(passed, "{report}");
     assert!(report.ends_with("Answers and bytes were equal in every run.\n"));
-    // Tables of 8, of 8 again, of 50 and of 4 lines, three lines for each call and label length,
+    // Tables of 8, of 8 again, of 50 and of 12 lines, three lines for each call and label length,
     // three for each whole listing in pages, and five for each call with a context.
     let starting = |words: &str| report.lines().filter(|l| l.starts_with(words)).count();
     assert_eq!(["short ", "mixed ", "bins ", "deep "].map(starting), [4; 4]);
@@ -131,11 +131,12 @@ fn passes(form: &dyn Engine) {
     assert_eq!(starting("taking in "), 5);
     assert_eq!(["page front ", "page mid "].map(starting), [2; 2]);
     assert_eq!(["merge   ", "merge fit "].map(starting), [2; 2]);
+    assert_eq!(["image ", "load "].map(starting), [2; 2]);
     assert_eq!(["    2     ", "   32     "].map(starting), [3; 2]);
     let name = form.name();
     let named =
         [format!(" /{name} "), format!("  {name} ")].map(|name| report.matches(&name).count());
-    assert_eq!(named, [4, 17], "{report}");
+    assert_eq!(named, [4, 19], "{report}");
     assert!(report.lines().all(|line| line.len() <= 120), "{report}");
 }
 
@@ -145,6 +146,7 @@ fn a_difference_is_found() {
         (Fault::FreedByteKept, "difference: compact: store byte "),
         (Fault::ListingRunsOn, "difference: list: output byte "),
         (Fault::MergeRunsOn, "difference: merge: output byte "),
+        (Fault::ImageForgetsRemoves, "difference: image: product "),
     ];
     for (fault, what) in faults {
         let faulty = Faulty::new(PLAIN, fault);

@@ -1,5 +1,6 @@
 //! An episode: controllers of its own, a script of what was done to them, and the scenarios of a
-//! single controller. The scenario of several is in `network`.
+//! single controller, of which images may be loaded into another. The scenario of several is in
+//! `network`.
 
 use super::damage::Damage;
 use super::moves;
@@ -7,8 +8,11 @@ use super::random::Random;
 use super::starts::start;
 use super::tally::Tally;
 use super::trial::{Act, Step, Trial, What};
-use super::{pools, Engines};
-use crate::script::{Both, Command, Rack, Reply};
+use super::{images, pools, Engines};
+use crate::script::{Both, Command, Rack, Reply, RACKS};
+
+/// The controller that images are loaded into on trial.
+const SPARE: usize = RACKS - 1;
 
 /// The controllers and the script so far, and what the whole run shares.
 pub struct Episode<'a> {
@@ -75,7 +79,7 @@ impl<'a> Episode<'a> {
             (Ok(Some(reply)), Act::Both(both)) => self.tally.count(both, reply),
             _ => (),
         }
-        self.tally.held(self.trial.held() - held);
+        self.tally.held(held, self.trial.held());
         self.script.push(step);
         reply
     }
@@ -121,6 +125,53 @@ impl<'a> Episode<'a> {
             }
             _ => None,
         })
+    }
+
+    /// The image that a controller writes; none if it is refused.
+    pub fn image(&mut self, at: usize) -> Result<Option<Vec<u8>>, What> {
+        let out = images::length(self.rack(at));
+        let reply = self.act(at, Act::Command(Command::Image { out }))?;
+        Ok(match reply {
+            Some(Reply::Wrote(wrote)) if wrote.answer == 0 => {
+                Some(self.out()[..wrote.written].to_vec())
+            }
+            _ => None,
+        })
+    }
+
+    /// Loads images of a controller into the spare one: the one that it writes, and others. A few
+    /// calls go on from each that is accepted.
+    fn hand_off(&mut self, at: usize) -> Result<(), What> {
+        let mut image = self.image(at)?;
+        for _ in 0..self.random.between(1, 4) {
+            let (actor, made) = self.choose(at, |random, rack| {
+                (
+                    images::actor(random, &rack.state),
+                    images::made(random, rack),
+                )
+            });
+            let image = image.take().unwrap_or(made);
+            let buffer = self.choose(at, |random, rack| images::lend(random, rack.used()));
+            self.act(SPARE, Act::Tool(buffer))?;
+            let load = Command::Load { actor, image };
+            let reply = self.act(SPARE, Act::Command(load))?;
+            if reply.is_some_and(|reply| reply.answer() == 0) {
+                self.go_on()?;
+            }
+        }
+        Ok(())
+    }
+
+    /// A few calls on the spare controller after a load; its image at once is the first, mostly.
+    fn go_on(&mut self) -> Result<(), What> {
+        if self.random.chance(70) {
+            self.image(SPARE)?;
+        }
+        for _ in 0..self.random.below(5) {
+            let command = self.choose(SPARE, |random, rack| moves::call(random, rack, true));
+            self.give(SPARE, command)?;
+        }
+        Ok(())
     }
 
     /// Damages a controller, calls it, and undoes the damage in most cases.
@@ -186,7 +237,7 @@ impl<'a> Episode<'a> {
         Ok(())
     }
 
-    /// A call with any arguments, damage, a set-up, or a merged read.
+    /// A call with any arguments, damage, a set-up, a merged read, or images.
     pub fn wild_move(&mut self, at: usize) -> Result<(), What> {
         match self.random.below(100) {
             0..=9 => self.damage(at),
@@ -197,6 +248,7 @@ impl<'a> Episode<'a> {
                 self.act(at, Act::Command(setup)).map(drop)
             }
             11 | 12 => self.merge(at),
+            13 | 14 => self.hand_off(at),
             _ => {
                 let command = self.choose(at, |random, rack| moves::call(random, rack, true));
                 self.give(at, command).map(drop)

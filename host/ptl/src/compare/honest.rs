@@ -1,5 +1,6 @@
-//! Holding a controller to the rule of demand 3: from its set-up on, as long as nobody else
-//! writes its state or used bytes and no two accepted adds give one dot to different labels.
+//! Holding a controller to the rule of demand 3: from its set-up on, or that of the writer of the image
+//! that it loaded, as long as nobody else writes its state or used bytes and no two accepted adds give
+//! one dot to different labels.
 
 use super::trial::What;
 use crate::rule::tell;
@@ -13,9 +14,12 @@ use std::collections::BTreeSet;
 const OUTPUT_SHORT: u8 = Answer::OutputShort as u8;
 
 /// The rule, with the set name for the bytes of keys.
+#[derive(Clone)]
 pub struct Honest {
     rule: Rule,
     name: Vec<u8>,
+    /// Whether the controller has loaded an image.
+    pub is_loaded: bool,
 }
 
 impl Honest {
@@ -24,6 +28,17 @@ impl Honest {
         Honest {
             rule: Rule::new(actor),
             name: name.to_vec(),
+            is_loaded: false,
+        }
+    }
+
+    /// The rule at an accepted load, as this actor, of an image that a controller wrote of which this
+    /// was the rule.
+    pub fn handed_off(&self, actor: u8) -> Honest {
+        Honest {
+            rule: self.rule.handed_off(actor),
+            name: self.name.clone(),
+            is_loaded: true,
         }
     }
 

@@ -6,6 +6,7 @@ mod damage;
 mod dots;
 mod episode;
 mod honest;
+mod images;
 mod messages;
 mod moves;
 mod network;
@@ -28,7 +29,7 @@ use tally::Tally;
 /// The product, and what it is compared with.
 pub type Engines<'a> = [&'a dyn Engine; 2];
 
-/// From so many calls on, every answer that a call can give must be met, and either end of a page.
+/// From so many calls on, every answer that a call can give must be met, and all else that a tally asks.
 const FULL_RUN: u64 = 200_000;
 
 /// Runs so many calls. False if a difference was found, or a full run met too few answers.

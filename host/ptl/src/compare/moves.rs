@@ -2,7 +2,7 @@
 
 use super::random::Random;
 use super::starts::store_length;
-use super::{dots, messages, pools};
+use super::{dots, images, messages, pools};
 use crate::script::{Command, KeyToWrite, Rack, Tool};
 use limits::{label_key_size, DOT_SIZE, KEY_FRONT, LINE_FIXED, MESSAGE_HEAD, STORE_MAX};
 use std::collections::BTreeMap;
@@ -40,9 +40,9 @@ pub fn own_remove(random: &mut Random, rack: &Rack, wild: bool) -> Command {
     Command::Remove { context, out }
 }
 
-/// Listing, page, lookup or compaction.
+/// Listing, page, lookup, image or compaction.
 pub fn looking(random: &mut Random, rack: &Rack) -> Command {
-    match random.below(15) {
+    match random.below(16) {
         0..=4 => {
             let need = line_lengths(rack).values().sum();
             let out = pools::out(random, need);
@@ -51,6 +51,9 @@ pub fn looking(random: &mut Random, rack: &Rack) -> Command {
         5..=9 => page(random, rack),
         10..=12 => Command::Lookup {
             label: asked_label(random, rack),
+        },
+        13 => Command::Image {
+            out: pools::out(random, images::length(rack)),
         },
         _ => Command::Compact,
     }

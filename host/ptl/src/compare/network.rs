@@ -1,16 +1,22 @@
 //! The scenario of several controllers of one set: they add, remove and compact, and exchange
-//! messages that are lost, repeated, shuffled, cut and garbled.
+//! messages that are lost, repeated, shuffled, cut and garbled; some are swapped for others, which load
+//! an image.
 
 use super::episode::Episode;
 use super::trial::{Act, What};
 use super::{messages, moves, pools};
 use crate::script::{Command, Reply, Tool, RACKS};
-use limits::ACTORS;
+use limits::{ACTORS, ACTOR_MAX};
 
-/// The messages sent so far, and how the controllers behave.
+/// The store that is lent for a load, and more than any store of a network uses.
+const STORE: usize = 4096;
+
+/// The messages sent and the images written so far, the actors taken, and how the controllers behave.
 struct Air {
     racks: usize,
     sent: Vec<Vec<u8>>,
+    images: Vec<Vec<u8>>,
+    taken: Vec<u8>,
     wild: bool,
 }
 
@@ -26,9 +32,11 @@ impl Episode<'_> {
         let mut air = Air {
             racks,
             sent: Vec::new(),
+            images: Vec::new(),
+            taken: Vec::new(),
             wild,
         };
-        self.set_all_up(&air)?;
+        self.set_all_up(&mut air)?;
         for _ in 0..self.random.between(30, 200) {
             if self.is_over() {
                 return Ok(());
@@ -39,7 +47,7 @@ impl Episode<'_> {
         self.read_all(&air)
     }
 
-    fn set_all_up(&mut self, air: &Air) -> Result<(), What> {
+    fn set_all_up(&mut self, air: &mut Air) -> Result<(), What> {
         let common = pools::name(self.random);
         let first = self.random.below(ACTORS);
         for at in 0..air.racks {
@@ -50,6 +58,7 @@ impl Episode<'_> {
             };
             let length = 200 + self.random.below(1500);
             let fill = self.random.byte();
+            air.taken.push(actor);
             self.act(at, Act::Command(Command::Setup { actor, name }))?;
             self.act(at, Act::Tool(Tool::Buffer { length, fill }))?;
         }
@@ -77,6 +86,7 @@ impl Episode<'_> {
                 let message = self.choose(at, |random, rack| messages::made(random, rack, wild));
                 self.give(at, Command::Take { message }).map(drop)
             }
+            94 | 95 => self.swap(at, air),
             _ if wild => self.wild_move(at),
             _ => {
                 let command = self.choose(at, moves::formats);
@@ -110,6 +120,24 @@ impl Episode<'_> {
             messages::garble(self.random, &mut message);
         }
         self.give(at, Command::Take { message }).map(drop)
+    }
+
+    /// A controller writes an image; or it dies, and another takes its place from an image of any
+    /// controller, now or long ago, as an actor that none has had.
+    fn swap(&mut self, at: usize, air: &mut Air) -> Result<(), What> {
+        let free = (1..=ACTOR_MAX).find(|actor| !air.taken.contains(actor));
+        let (Some(image), Some(actor), true) =
+            (self.random.any(&air.images), free, self.random.chance(50))
+        else {
+            let image = self.image(at)?;
+            air.images.extend(image);
+            return Ok(());
+        };
+        let (length, fill) = (STORE, self.random.byte());
+        self.act(at, Act::Tool(Tool::Buffer { length, fill }))?;
+        air.taken.push(actor);
+        self.act(at, Act::Command(Command::Load { actor, image }))
+            .map(drop)
     }
 
     /// Lists, compacts and lists again.

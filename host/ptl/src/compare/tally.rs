@@ -1,7 +1,8 @@
-//! How often each answer of each call was met, either end of a page, labels that do not print, and
-//! merged reads that are no controller's own listing.
+//! How often each answer of each call was met, either end of a page, labels that do not print, merged
+//! reads that are no controller's own listing, and controllers that had loaded an image.
 
 use super::pools::is_unprinted;
+use super::trial::Held;
 use crate::script::{Both, Command, Reply, Worded};
 use limits::ANSWERS;
 use std::collections::BTreeMap;
@@ -20,11 +21,14 @@ const UNPRINTED: [&str; 2] = [
 /// Whether one of the two controllers lists alone what a merged read lists, by whether it does.
 const ALONE: [&str; 2] = ["as neither lists", "as one lists"];
 
+/// What is held to the rule of demand 3 after a load.
+const LOADED: &str = "a controller that loaded an image, held to the rule";
+
 /// The counts of a run, and how many calls it is to have.
 pub struct Tally {
     wanted: u64,
     done: u64,
-    held: u64,
+    held: Held,
     /// By the call's word.
     met: BTreeMap<&'static str, [u64; ANSWERS]>,
     /// Accepted pages that none follows, and those that more follow.
@@ -40,7 +44,7 @@ impl Tally {
         Tally {
             wanted,
             done: 0,
-            held: 0,
+            held: Held::default(),
             met: BTreeMap::new(),
             pages: [0; 2],
             unprinted: [0; 2],
@@ -80,9 +84,10 @@ impl Tally {
         self.merges[usize::from(as_one_lists)] += 1;
     }
 
-    /// Counts calls that were held to the rule of demand 3.
-    pub fn held(&mut self, calls: u64) {
-        self.held += calls;
+    /// Counts the calls that were held to the rule of demand 3 from one time to another.
+    pub fn held(&mut self, before: Held, after: Held) {
+        self.held.all += after.all - before.all;
+        self.held.loaded += after.loaded - before.loaded;
     }
 
     pub fn done(&self) -> u64 {
@@ -100,7 +105,7 @@ impl Tally {
     }
 
     /// The answers that a call can give and did not, the ends that no page had, what did not happen
-    /// to labels that do not print, and what no merged read was.
+    /// to labels that do not print, what no merged read was, and whether no load was held to the rule.
     pub fn unmet(&self) -> Vec<String> {
         let mut unmet = Vec::new();
         for (call, answers) in CALLS.into_iter().flatten() {
@@ -115,6 +120,9 @@ impl Tally {
         let unprinted = UNPRINTED.iter().zip(&self.unprinted);
         let missing = unprinted.filter(|(_, count)| **count == 0);
         unmet.extend(missing.map(|(what, _)| what.to_string()));
+        if self.held.loaded == 0 {
+            unmet.push(LOADED.to_string());
+        }
         unmet
     }
 
@@ -141,7 +149,10 @@ impl Tally {
         lines.push(format!(
             "accepted merged reads compared with both listings: {neither} as neither lists, {one} as one lists"
         ));
-        lines.push(format!("held to the rule of demand 3: {}", self.held));
+        let Held { all, loaded } = self.held;
+        lines.push(format!(
+            "held to the rule of demand 3: {all}, of them {loaded} after the load of an image"
+        ));
         lines
     }
 }

@@ -4,8 +4,8 @@
 use super::episode::Episode;
 use super::random::Random;
 use super::tally::Tally;
-use super::trial::Act;
-use super::{compare, verdict, Engines, FULL_RUN};
+use super::trial::{Act, Held, Step, Trial};
+use super::{compare, images, verdict, Engines, FULL_RUN};
 use crate::console::console;
 use crate::engine::{Engine, Fault, Faulty, Second, FASTEST, PLAIN, TUNED};
 use crate::script::{line_to, parse, Both, Command, Line, Reply};
@@ -66,6 +66,8 @@ fn a_fault_in_the_answer_is_shown() {
     shows(Fault::PageEndsEarly, "answers or counts differ", 10);
     shows(Fault::MergeOfOne, "answers or counts differ", 10);
     shows(Fault::MergeForgetsRemoves, "answers or counts differ", 12);
+    shows(Fault::ChecksumUnread, "answers or counts differ", 1);
+    shows(Fault::ImageForgetsRemoves, "answers or counts differ", 12);
 }
 
 #[test]
@@ -87,11 +89,14 @@ fn the_report_names_what_the_product_is_compared_with() {
 fn a_fault_in_the_state_is_shown() {
     shows(Fault::WholeShiftLost, "states differ", 10);
     shows(Fault::KeylessDotsStay, "states differ", 10);
+    shows(Fault::LoadKeepsWriter, "states differ", 1);
 }
 
 #[test]
 fn a_fault_in_the_store_is_shown() {
     shows(Fault::FreedByteKept, "stores differ", 10);
+    // A store of bytes that are not 0, and the load.
+    shows(Fault::LoadClearsRest, "stores differ", 2);
 }
 
 #[test]
@@ -107,7 +112,8 @@ fn a_fault_at_a_boundary_is_shown() {
     shows(Fault::StoreOneShort, "answers or counts differ", 20);
     shows(Fault::OnePastPrints, "answers or counts differ", 2);
     shows(Fault::UnprintedNotFound, "answers or counts differ", 2);
-    shows(Fault::MergeOneShort, "answers or counts differ", 10);
+    // The labels that fill the output to its end.
+    shows(Fault::MergeOneShort, "answers or counts differ", 14);
     // All slots but one, their number, a base, a set-up and the remove.
     let most = TOMBSTONE_DOTS_MAX + 12;
     shows(Fault::TombstoneOneShort, "answers or counts differ", most);
@@ -148,6 +154,77 @@ fn a_fault_that_both_sides_have_breaks_the_rule() {
             "{report}"
         );
     }
+}
+
+#[test]
+fn images_that_both_sides_get_wrong_are_shown() {
+    for (fault, what) in [
+        (
+            Fault::ImageForgetsRemoves,
+            "script: an image loaded and at once written again is another",
+        ),
+        (
+            Fault::LoadKeepsWriter,
+            "script: the clock does not see what the rule of demand 3 says",
+        ),
+    ] {
+        let faulty = Faulty::new(&Second, fault);
+        let report = found([&faulty, &faulty]);
+        assert!(report.contains(what), "{report}");
+    }
+}
+
+/// A command that is given to a controller of a trial; what it answers.
+fn answer(trial: &mut Trial, rack: usize, command: Command) -> u8 {
+    let act = Act::Command(command);
+    let reply = trial.step(&Step { rack, act });
+    reply.expect("the same").expect("a call").answer()
+}
+
+/// Loads an image and lists; whether the listing was held to the rule.
+fn is_held_after(trial: &mut Trial, actor: u8, image: &[u8]) -> bool {
+    let image = image.to_vec();
+    assert_eq!(answer(trial, 1, Command::Load { actor, image }), 0);
+    let before = trial.held();
+    assert_eq!(answer(trial, 1, Command::List { out: 99 }), 0);
+    let held = trial.held();
+    assert_eq!(held.all - before.all, held.loaded - before.loaded);
+    held.loaded > before.loaded
+}
+
+/// Demand 3 speaks of images that a controller held to it wrote, and that came unaltered.
+#[test]
+fn a_loaded_controller_is_held_to_its_writers_history() {
+    let mut trial = Trial::new([&Second, &Second]);
+    let (actor, name) = (1, b"R1".to_vec());
+    assert_eq!(answer(&mut trial, 0, Command::Setup { actor, name }), 0);
+    let (label, context, out) = (b"B7".to_vec(), Vec::new(), 99);
+    let add = Command::Add {
+        label,
+        context,
+        out,
+    };
+    assert_eq!(answer(&mut trial, 0, add), 0);
+    assert_eq!(answer(&mut trial, 0, Command::Image { out: 294 }), 0);
+    let image = trial.out(0).to_vec();
+    let altered = images::written_again(&image, 3);
+    assert!(is_held_after(&mut trial, 2, &image));
+    assert!(!is_held_after(&mut trial, 2, &altered));
+    assert!(is_held_after(&mut trial, 16, &image));
+}
+
+#[test]
+fn a_tally_tells_that_no_load_was_held_to_the_rule() {
+    let mut tally = Tally::new(10);
+    let what = "a controller that loaded an image, held to the rule";
+    let unmet = |tally: &Tally| tally.unmet().iter().any(|unmet| unmet == what);
+    let held = |all, loaded| Held { all, loaded };
+    tally.held(held(0, 0), held(1, 0));
+    assert!(unmet(&tally));
+    tally.held(held(1, 0), held(2, 1));
+    assert!(!unmet(&tally));
+    let lines = tally.lines().join("\n");
+    assert!(lines.contains("demand 3: 2, of them 1 after"), "{lines}");
 }
 
 /// The script of a difference in a merged read names its controllers from 0 on, and the report has

@@ -1,7 +1,7 @@
 //! A script of commands, run on two engines side by side and compared after each one.
 
 use super::honest::{leaves, Honest};
-use super::Engines;
+use super::{images, Engines};
 use crate::script::{Both, Command, Rack, Reply, Tool, Worded, RACKS};
 use ptl::Dot;
 
@@ -30,18 +30,58 @@ pub enum Act {
     Dots(Vec<Dot>),
 }
 
+impl Act {
+    /// Does to a controller what is no call. A poke outside the store does nothing.
+    pub fn change(&self, rack: &mut Rack) {
+        match self {
+            Act::Tool(tool) => drop(rack.obey(tool)),
+            Act::Keys(keys) => put_keys(rack, &keys.concat()),
+            Act::Dots(dots) => put_dots(rack, dots),
+            Act::Command(_) | Act::Both(_) => (),
+        }
+    }
+}
+
+/// Puts keys at the front of the store, as far as they fit, and sets the used length.
+fn put_keys(rack: &mut Rack, keys: &[u8]) {
+    let fits = keys.len().min(rack.store.len());
+    rack.store[..fits].copy_from_slice(&keys[..fits]);
+    rack.state.set_used(keys.len() as u64);
+}
+
+/// Puts dots in the first slots of the tombstone, and sets their number.
+fn put_dots(rack: &mut Rack, dots: &[Dot]) {
+    for (slot, dot) in dots.iter().enumerate() {
+        rack.state.set_slot(slot, *dot);
+    }
+    rack.state.set_count(dots.len() as u64);
+}
+
 /// The controllers of one script, each held twice, and the outputs of the last step.
 pub struct Trial<'a> {
     engines: Engines<'a>,
     pairs: Vec<Option<Pair>>,
     outs: [Vec<u8>; 2],
-    held: u64,
+    /// The images that controllers held to the rule wrote, with what it knew of them then.
+    images: Vec<(Vec<u8>, Honest)>,
+    held: Held,
 }
 
-/// A controller on either side, with what the rule knows of it if it can be held to the rule.
+/// How many listings, merged or not, pages, lookups and compactions were held to the rule.
+#[derive(Clone, Copy, PartialEq, Eq, Debug, Default)]
+pub struct Held {
+    pub all: u64,
+    /// Those, merged reads aside, of controllers that had loaded an image.
+    pub loaded: u64,
+}
+
+/// A controller on either side.
 struct Pair {
     sides: [Rack; 2],
+    /// What the rule knows of it, if it can be held to the rule.
     honest: Option<Honest>,
+    /// The image that it loaded, with its new actor, if nothing was done to it since.
+    loaded: Option<(u8, Vec<u8>)>,
 }
 
 impl<'a> Trial<'a> {
@@ -50,7 +90,8 @@ impl<'a> Trial<'a> {
             engines,
             pairs: (0..RACKS).map(|_| None).collect(),
             outs: [Vec::new(), Vec::new()],
-            held: 0,
+            images: Vec::new(),
+            held: Held::default(),
         }
     }
 
@@ -69,8 +110,7 @@ impl<'a> Trial<'a> {
         &self.outs[side]
     }
 
-    /// How many listings, merged or not, pages, lookups and compactions were held to the rule.
-    pub fn held(&self) -> u64 {
+    pub fn held(&self) -> Held {
         self.held
     }
 
@@ -78,6 +118,7 @@ impl<'a> Trial<'a> {
         self.pairs[at].get_or_insert_with(|| Pair {
             sides: [Rack::new(), Rack::new()],
             honest: None,
+            loaded: None,
         })
     }
 
@@ -86,9 +127,7 @@ impl<'a> Trial<'a> {
         match &step.act {
             Act::Command(command) => return self.command(step.rack, command).map(Some),
             Act::Both(both) => return self.both(both).map(Some),
-            Act::Tool(tool) => self.pair(step.rack).obey(tool),
-            Act::Keys(keys) => self.pair(step.rack).put_keys(keys),
-            Act::Dots(dots) => self.pair(step.rack).put_dots(dots),
+            act => self.pair(step.rack).change(act),
         }
         Ok(None)
     }
@@ -99,10 +138,33 @@ impl<'a> Trial<'a> {
             engines[side].run(&mut trial.pair(at).sides[side], command, out)
         })?;
         let out = std::mem::take(&mut self.outs[0]);
-        let done = self.pair(at).compare(command, &reply, &out);
+        let begun = self.begun(command, &reply);
+        let pair = self.pair(at);
+        let done = pair.compare(command, &reply, begun, &out);
+        let of_loaded = { pair.honest.as_ref() }.is_some_and(|honest| honest.is_loaded);
+        let written = pair.honest_image(&reply, command, &out);
+        self.images.extend(written);
         self.outs[0] = out;
-        self.held += u64::from(done?);
+        let held = u64::from(done?);
+        self.held.all += held;
+        self.held.loaded += held * u64::from(of_loaded);
         Ok(reply)
+    }
+
+    /// What the rule knows of a controller that begins anew, by a set-up or a load that is accepted;
+    /// of a load only if a controller that was held to the rule wrote just this image. None for all
+    /// other commands.
+    fn begun(&self, command: &Command, reply: &Reply) -> Option<Option<Honest>> {
+        let accepted = reply.answer() == 0;
+        match command {
+            Command::Setup { actor, name } => Some(accepted.then(|| Honest::new(*actor, name))),
+            Command::Load { actor, image } => {
+                let mut images = self.images.iter().filter(|_| accepted);
+                let writer = images.find(|(written, _)| written == image);
+                Some(writer.map(|(_, writer)| writer.handed_off(*actor)))
+            }
+            _ => None,
+        }
     }
 
     /// A call that reads two controllers: neither may change.
@@ -121,7 +183,7 @@ impl<'a> Trial<'a> {
         second.is_alike()?;
         if let (Some(one), Some(two)) = (&first.honest, &second.honest) {
             let held = one.check_merged(two, &reply, &self.outs[0])?;
-            self.held += u64::from(held);
+            self.held.all += u64::from(held);
         }
         Ok(reply)
     }
@@ -159,42 +221,74 @@ impl<'a> Trial<'a> {
 }
 
 impl Pair {
-    /// Does the same to both sides. A poke outside the store does nothing.
-    fn obey(&mut self, tool: &Tool) {
+    /// Does the same to both sides.
+    fn change(&mut self, act: &Act) {
         for side in &mut self.sides {
-            let _ = side.obey(tool);
+            act.change(side);
         }
-        if !leaves(tool, self.sides[0].state.used()) {
+        let used = self.sides[0].state.used();
+        if !matches!(act, Act::Tool(tool) if leaves(tool, used)) {
             self.honest = None;
+            self.loaded = None;
         }
     }
 
-    /// Puts keys at the front of both stores, as far as they fit, and sets the used length.
-    fn put_keys(&mut self, keys: &[Vec<u8>]) {
-        let bytes = keys.concat();
-        for side in &mut self.sides {
-            let fits = bytes.len().min(side.store.len());
-            side.store[..fits].copy_from_slice(&bytes[..fits]);
-            side.state.set_used(bytes.len() as u64);
-        }
-        self.honest = None;
-    }
-
-    /// Puts dots in the first slots of both tombstones, and sets their number.
-    fn put_dots(&mut self, dots: &[Dot]) {
-        for side in &mut self.sides {
-            for (slot, dot) in dots.iter().enumerate() {
-                side.state.set_slot(slot, *dot);
-            }
-            side.state.set_count(dots.len() as u64);
-        }
-        self.honest = None;
-    }
-
-    /// Compares the two sides, then holds them to the rule; true if there was something to hold.
-    fn compare(&mut self, command: &Command, reply: &Reply, out: &[u8]) -> Result<bool, What> {
+    /// Compares the two sides, then holds them to the rule, and an image to the one loaded just
+    /// before; true if there was something to hold to the rule.
+    fn compare(
+        &mut self,
+        command: &Command,
+        reply: &Reply,
+        begun: Option<Option<Honest>>,
+        out: &[u8],
+    ) -> Result<bool, What> {
         self.is_alike()?;
-        self.hold_to_rule(command, reply, out)
+        self.check_again(command, reply, out)?;
+        match begun {
+            Some(honest) => {
+                self.honest = honest;
+                Ok(false)
+            }
+            None => self.hold_to_rule(command, reply, out),
+        }
+    }
+
+    /// An image that is loaded and at once written again differs in actor and CRC only.
+    fn check_again(&mut self, command: &Command, reply: &Reply, out: &[u8]) -> Result<(), What> {
+        match (command, reply, &self.loaded) {
+            (Command::Image { .. }, Reply::Wrote(wrote), Some((actor, image))) => {
+                let again = images::written_again(image, *actor);
+                match wrote.answer != 0 || out[..wrote.written] == again {
+                    true => Ok(()),
+                    false => Err("an image loaded and at once written again is another"),
+                }
+            }
+            (Command::Load { actor, image }, ..) => {
+                let accepted = reply.answer() == 0;
+                self.loaded = accepted.then(|| (*actor, image.clone()));
+                Ok(())
+            }
+            _ => {
+                self.loaded = None;
+                Ok(())
+            }
+        }
+    }
+
+    /// The image that was written, if it was, with what the rule knows.
+    fn honest_image(
+        &self,
+        reply: &Reply,
+        command: &Command,
+        out: &[u8],
+    ) -> Option<(Vec<u8>, Honest)> {
+        match (command, reply) {
+            (Command::Image { .. }, Reply::Wrote(wrote)) if wrote.answer == 0 => {
+                let honest = self.honest.clone()?;
+                Some((out[..wrote.written].to_vec(), honest))
+            }
+            _ => None,
+        }
     }
 
     /// Compares the two sides.
@@ -212,11 +306,6 @@ impl Pair {
     /// Tells the rule of a command that both sides agree on, and holds what was read to it.
     fn hold_to_rule(&mut self, command: &Command, reply: &Reply, out: &[u8]) -> Result<bool, What> {
         let rack = &self.sides[0];
-        if let Command::Setup { actor, name } = command {
-            let accepted = reply.answer() == 0;
-            self.honest = accepted.then(|| Honest::new(*actor, name));
-            return Ok(false);
-        }
         let Some(honest) = &mut self.honest else {
             return Ok(false);
         };

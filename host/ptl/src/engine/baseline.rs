@@ -36,6 +36,10 @@ impl<F: Calls> Engine for Baseline<F> {
             Command::Page { start, .. } => paged(F::page(block, store, start, out)),
             Command::Lookup { label } => looked(F::lookup(block, store, label)),
             Command::Compact => Reply::Answered(F::compact(block, store)),
+            Command::Image { .. } => wrote(F::write_image(block, store, out)),
+            Command::Load { actor, image } => {
+                Reply::Answered(F::load_image(*actor, image, block, store))
+            }
             Command::Key { key, .. } => wrote(key.written_by(baseline::write_key, out)),
             Command::ReadKey { bytes } => key(baseline::read_key(bytes)),
             Command::ReadMessage { bytes } => message(baseline::read_message(bytes)),

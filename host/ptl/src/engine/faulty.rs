@@ -2,7 +2,7 @@
 
 use super::Engine;
 use crate::script::{Command, Rack, Reply};
-use limits::{ACTOR_MAX, PRINT_MAX, TOMBSTONE_DOTS_MAX, WINDOW};
+use limits::{ACTOR_MAX, CRC_SIZE, MESSAGE_HEAD, PRINT_MAX, TOMBSTONE_DOTS_MAX, WINDOW};
 use ptl::calls::Wrote;
 use ptl::{Actor, Answer, Dot, State};
 use std::cell::Cell;
@@ -38,6 +38,14 @@ pub enum Fault {
     MergeOneShort,
     /// A byte is written after a merged read.
     MergeRunsOn,
+    /// An image is written without the tombstone's dots.
+    ImageForgetsRemoves,
+    /// A wrong CRC is taken for a right one.
+    ChecksumUnread,
+    /// A box that loads an image keeps the writer's actor.
+    LoadKeepsWriter,
+    /// The store past the loaded keys is set to 0.
+    LoadClearsRest,
     /// A shift of the window by its whole width leaves it as it was.
     WholeShiftLost,
     /// A message with bytes left over is read.
@@ -148,6 +156,33 @@ impl<'a> Faulty<'a> {
             }
             _ => reply,
         }
+    }
+
+    fn write_image(&self, rack: &mut Rack, command: &Command, out: &mut [u8]) -> Reply {
+        let mut rack = rack.clone();
+        if self.has(Fault::ImageForgetsRemoves) {
+            forget_removes(&mut rack.state);
+        }
+        self.sound.run(&mut rack, command, out)
+    }
+
+    fn load(&self, rack: &mut Rack, actor: u8, image: &[u8]) -> Reply {
+        let image = match self.has(Fault::ChecksumUnread) {
+            true => sealed(image),
+            false => image.to_vec(),
+        };
+        let writer = image.get(actor_at(&image)).copied().map(Actor);
+        let load = Command::Load { actor, image };
+        let reply = self.sound.run(rack, &load, &mut []);
+        if let (0, Some(writer), true) = (reply.answer(), writer, self.has(Fault::LoadKeepsWriter))
+        {
+            rack.state.set_actor(writer);
+        }
+        if self.has(Fault::LoadClearsRest) && reply.answer() == 0 {
+            let used = rack.used();
+            rack.store[used..].fill(0);
+        }
+        reply
     }
 
     /// Merged read.
@@ -275,6 +310,18 @@ fn put_back(state: &mut State, dots: &[Dot]) {
     state.set_count(dots.len() as u64);
 }
 
+/// Where the writer's actor stands in an image.
+fn actor_at(image: &[u8]) -> usize {
+    let name = image.get(MESSAGE_HEAD - 1).copied();
+    MESSAGE_HEAD + usize::from(name.unwrap_or_default())
+}
+
+/// An image with a right CRC in place of its own.
+fn sealed(image: &[u8]) -> Vec<u8> {
+    let (body, _) = image.split_at(image.len().saturating_sub(CRC_SIZE));
+    [body, &reference::crc32(body).to_be_bytes()].concat()
+}
+
 /// Writes a byte after these.
 fn run_on(written: usize, out: &mut [u8]) {
     if let Some(byte) = out.get_mut(written) {
@@ -321,6 +368,8 @@ impl Engine for Faulty<'_> {
             Command::Remove { .. } => self.own_remove(rack, command, out),
             Command::Take { .. } => Reply::Answered(self.taken_in(rack, command)),
             Command::Compact => self.compact(rack),
+            Command::Image { .. } => self.write_image(rack, command, out),
+            Command::Load { actor, image } => self.load(rack, *actor, image),
             Command::ReadMessage { bytes } => self.read_message(rack, bytes),
             Command::Lookup { label }
                 if self.has(Fault::UnprintedNotFound) && label.iter().any(|b| *b > PRINT_MAX) =>

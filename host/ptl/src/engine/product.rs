@@ -26,6 +26,10 @@ impl Engine for Product {
             Command::Page { start, .. } => Reply::Paged(calls::page(state, store, start, out)),
             Command::Lookup { label } => Reply::Looked(calls::lookup(state, store, label)),
             Command::Compact => Reply::Answered(calls::compact(state, store)),
+            Command::Image { .. } => Reply::Wrote(calls::write_image(state, store, out)),
+            Command::Load { actor, image } => {
+                Reply::Answered(calls::load_image(*actor, image, state, store))
+            }
             Command::Key { key, .. } => Reply::Wrote(key.written_by(calls::write_key, out)),
             Command::ReadKey { bytes } => Reply::Key(calls::read_key(bytes)),
             Command::ReadMessage { bytes } => Reply::Message(calls::read_message(bytes)),

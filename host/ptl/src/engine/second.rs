@@ -45,6 +45,12 @@ impl Engine for Second {
                 let done = reference::compact(&of_block(state), store);
                 Reply::Answered(leave(state, done).answer)
             }
+            Command::Image { .. } => wrote(reference::write_image(&of_block(state), store, out)),
+            Command::Load { actor, image } => {
+                let (answer, made) = reference::load_image(*actor, image, store);
+                *state = to_block(&made);
+                Reply::Answered(answer)
+            }
             Command::Key { key, .. } => wrote(write_key(key, out)),
             Command::ReadKey { bytes } => Reply::Key(key(reference::read_key(bytes))),
             Command::ReadMessage { bytes } => Reply::Message(message(bytes)),

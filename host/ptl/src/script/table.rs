@@ -81,6 +81,8 @@ table! {
     Page "page" { start: Text, out: Out } => [0, 1, 5, 13];
     Lookup "lookup" { label: Text } => [0, 1, 5];
     Compact "compact" => [0, 1];
+    Image "image" { out: Out } => [0, 1, 13];
+    Load "load" { actor: Byte, image: Hex } => [0, 1, 2, 3, 4, 5, 6, 12, 14, 15];
     Key "key" { key: KeyToWrite, out: Out } => [0, 4, 5, 6, 13];
     ReadKey "readkey" { bytes: Hex } => [0, 4];
     ReadMessage "readmessage" { bytes: Hex } => [0, 2, 3, 4, 5, 6];

@@ -1,12 +1,11 @@
 //! The day: its phases, their weather, and what is to be done in each.
 
 use super::floor::Floor;
-use super::goods::{label, Bin, BINS, PARTS, RETURNS, RETURNS_BIN};
+use super::goods::{label, Bin, BINS, BOXES, PARTS, RETURNS, RETURNS_BIN};
 use super::goods::{SPRING, SPRING_BIN, SPRING_MOVES_TO};
 use super::weather::Weather;
 use super::work::{Done, Job, Task};
 use crate::random::Random;
-use crate::script::RACKS;
 use std::collections::VecDeque;
 
 /// What is to be done in a phase.
@@ -16,7 +15,7 @@ pub enum Plan {
     Fill,
     /// So many labels come and go.
     Work(usize),
-    /// Racks change places, and all their labels with them.
+    /// A box is swapped. Racks change places, and all their labels with them.
     Move,
     /// All is sent again until every box has all.
     GetThrough,
@@ -63,7 +62,8 @@ pub const PHASES: [Phase; 5] = [
     },
     Phase {
         name: "lunch",
-        story: "racks change places, all at once; the gas springs go from B7 to C2; goods-in clears E12",
+        story: "a box dies, and the spare one takes its place; racks change places, all at once; the gas springs go\n             \
+                from B7 to C2; goods-in clears E12",
         plan: Plan::Move,
         weather: Weather::FOUL,
         rounds: 1,
@@ -101,7 +101,7 @@ const TRIES: usize = 5;
 /// Bins of a rack that are filled in the morning.
 const FILLED: u8 = 10;
 /// The box of the goods-in desk, which does a quarter of all work.
-const GOODS_IN: usize = 4;
+pub const GOODS_IN: usize = 4;
 /// Tasks in a hundred that are returns.
 const RETURNED: usize = 6;
 /// Pairs of racks that change places at lunch; the gas springs' is one of them.
@@ -111,6 +111,9 @@ impl Floor<'_> {
     /// Plays a phase. In the end every box is held to its rule.
     pub fn play(&mut self, phase: &Phase) {
         self.begin(phase);
+        if phase.plan == Plan::Move {
+            self.swap();
+        }
         for _ in 0..phase.rounds {
             let mut tasks = self.tasks(phase.plan);
             while !tasks.is_empty() {
@@ -161,7 +164,7 @@ impl Floor<'_> {
 
     fn filling(&mut self) -> Vec<Task> {
         let mut tasks = Vec::new();
-        for at in 0..RACKS {
+        for at in 0..BOXES {
             for number in 1..=FILLED {
                 let bin = Bin {
                     rack: self.stations[at].place,
@@ -180,7 +183,7 @@ impl Floor<'_> {
     fn something(&mut self) -> Task {
         let at = match self.random.chance(25) {
             true => GOODS_IN,
-            false => self.random.below(RACKS),
+            false => self.random.below(BOXES),
         };
         let job = match self.random.chance(RETURNED) {
             true => Job::Put(label(RETURNS, RETURNS_BIN)),
@@ -192,7 +195,7 @@ impl Floor<'_> {
     /// Pairs of racks change places, the boxes with them; the goods-in desk clears the returns.
     fn moving(&mut self) -> Vec<Task> {
         let (spring, other) = (SPRING_BIN.rack, SPRING_MOVES_TO.rack);
-        let mut racks: Vec<u8> = (0..RACKS as u8)
+        let mut racks: Vec<u8> = (0..BOXES as u8)
             .filter(|rack| ![spring, other].contains(rack))
             .collect();
         shuffle(&mut self.random, &mut racks);

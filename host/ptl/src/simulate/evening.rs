@@ -3,8 +3,9 @@
 
 use super::day::shuffle;
 use super::floor::Floor;
+use super::goods::BOXES;
 use super::weather::Weather;
-use crate::script::{Command, RACKS};
+use crate::script::Command;
 
 /// After so many rounds in which no box accepted anything new, radio and power are made perfect; if
 /// nothing is accepted then either, the rest is given up.
@@ -32,7 +33,7 @@ impl Floor<'_> {
             lacking = left;
         }
         self.drain();
-        for at in 0..RACKS {
+        for at in 0..BOXES {
             let lacks = lacking.iter().filter(|(to, _)| *to == at).count();
             if lacks > 0 {
                 self.fault(at, format!("has not accepted {lacks} messages"));
@@ -43,7 +44,7 @@ impl Floor<'_> {
     /// Each box with each message that it has not accepted.
     fn lacking(&self) -> Vec<(usize, usize)> {
         let numbers = 0..self.posted.len();
-        let pairs = numbers.flat_map(|number| (0..RACKS).map(move |to| (to, number)));
+        let pairs = numbers.flat_map(|number| (0..BOXES).map(move |to| (to, number)));
         let lacks = |pair: &(usize, usize)| !self.stations[pair.0].has_accepted(pair.1);
         pairs.filter(lacks).collect()
     }
@@ -59,7 +60,7 @@ impl Floor<'_> {
             self.pass(0);
         }
         self.drain();
-        for at in 0..RACKS {
+        for at in 0..BOXES {
             self.take_later(at);
         }
     }
@@ -76,11 +77,11 @@ impl Floor<'_> {
     pub fn end(&mut self) {
         self.weather = Weather::STILL;
         self.power_up();
-        for at in 0..RACKS {
+        for at in 0..BOXES {
             self.act(at, &Command::Compact);
         }
         self.hold_all();
-        for at in 0..RACKS {
+        for at in 0..BOXES {
             self.hold_to_all(at);
         }
         self.hold_alike();

@@ -1,27 +1,32 @@
-//! The shop floor: sixteen boxes, the radio between them, and one rule over all messages.
+//! The shop floor: fifteen boxes and a spare one, the radio between them, and one rule over all messages.
 
 use super::agreement::Sample;
 use super::calls::Blocked;
 use super::day::Phase;
+use super::goods::BOXES;
 use super::lamps::AfterMove;
 use super::radio::Radio;
 use super::station::Station;
+use super::swap::Swap;
 use super::tally::Tally;
 use super::terminal::Terminal;
 use super::together::Together;
 use super::weather::Weather;
 use crate::engine::Engine;
 use crate::random::Random;
-use crate::script::{Command, RACKS};
+use crate::script::Command;
 use reference::Rule;
 use std::collections::{BTreeMap, BTreeSet};
 
 /// After so many accepted messages a box tries again those that it kept.
 const FRESH: usize = 20;
 
-/// A message that was written. Its author has it in flash, so that it can be sent again.
+/// A message that was written. Its author has it in flash, and the office a copy, so that it can be sent
+/// again.
 pub struct Posted {
     pub bytes: Vec<u8>,
+    /// The box that wrote it.
+    pub by: usize,
     /// When it was written.
     pub tick: u64,
 }
@@ -57,6 +62,8 @@ pub struct Floor<'a> {
     pub blocked: Blocked,
     /// What a person asks two boxes at once with.
     pub together: Together,
+    /// The box that died, and how its place was taken.
+    pub swapped: Option<Swap>,
     pub phase: &'static str,
     seed: u64,
     faults: Vec<String>,
@@ -64,7 +71,7 @@ pub struct Floor<'a> {
 }
 
 impl<'a> Floor<'a> {
-    /// Sixteen boxes, set up, in fair weather.
+    /// Fifteen boxes, set up, in fair weather.
     pub fn new(engine: &'a dyn Engine, seed: u64) -> Floor<'a> {
         let mut floor = Floor {
             engine,
@@ -86,12 +93,13 @@ impl<'a> Floor<'a> {
             terminal: Terminal::new(seed),
             blocked: Blocked::default(),
             together: Together::new(seed),
+            swapped: None,
             phase: "set-up",
             seed,
             faults: Vec::new(),
             disagreements: 0,
         };
-        for at in 0..RACKS {
+        for at in 0..BOXES {
             let (station, answer) = Station::set_up(engine, at as u8 + 1);
             floor.stations.push(station);
             if answer != 0 {
@@ -138,8 +146,8 @@ impl<'a> Floor<'a> {
         self.disagreements
     }
 
-    /// One tick: some messages are sent again, what arrives is taken in, a page may be read, and two
-    /// boxes may be asked at once.
+    /// One tick: some messages are sent again, what arrives is taken in, boxes write images, a page may
+    /// be read, and two boxes may be asked at once.
     pub fn pass(&mut self, again: usize) {
         self.tick += 1;
         for _ in 0..again {
@@ -148,16 +156,17 @@ impl<'a> Floor<'a> {
         while let Some(flight) = self.radio.arrives(self.tick) {
             self.deliver(flight);
         }
-        for at in 0..RACKS {
+        for at in 0..BOXES {
             let station = &self.stations[at];
             if station.fresh >= FRESH && !station.later.is_empty() {
                 self.take_later(at);
             }
         }
-        let at = self.random.below(RACKS);
+        let at = self.random.below(BOXES);
         if self.random.chance(1) && self.is_on(at) {
             self.act(at, &Command::Compact);
         }
+        self.write_images();
         self.use_terminal();
         self.ask_two();
     }

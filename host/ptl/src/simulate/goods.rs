@@ -1,11 +1,14 @@
 //! Parts, bins and the labels made of both: `SPRING@B7` says that gas springs are in bin 7 of
 //! rack B.
 
-use crate::script::RACKS;
+use limits::ACTORS;
 use std::fmt;
 
 /// The set that all boxes share.
 pub const SET: &[u8] = b"RACKS";
+/// Boxes at work, each with an actor of its own and a rack. One actor is left, for a box that takes the
+/// place of another.
+pub const BOXES: usize = ACTORS - 1;
 /// Bins of a rack.
 pub const BINS: u8 = 12;
 
@@ -59,6 +62,6 @@ pub fn part_and_bin(label: &[u8]) -> Option<(&str, Bin)> {
     let (part, bin) = std::str::from_utf8(label).ok()?.split_once('@')?;
     let rack = bin.bytes().next()?.checked_sub(b'A')?;
     let number = bin.get(1..)?.parse().ok()?;
-    let known = usize::from(rack) < RACKS && (1..=BINS).contains(&number);
+    let known = usize::from(rack) < BOXES && (1..=BINS).contains(&number);
     known.then_some((part, Bin { rack, number }))
 }

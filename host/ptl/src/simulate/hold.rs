@@ -2,10 +2,10 @@
 
 use super::agreement::live_labels;
 use super::floor::Floor;
-use super::goods::{part_and_bin, WATCHED};
+use super::goods::{part_and_bin, BOXES, WATCHED};
 use super::station::Station;
 use crate::engine::Engine;
-use crate::script::RACKS;
+use limits::ACTOR_MAX;
 use ptl::{Actor, Entry, Listing};
 use reference::{Dot, Rule};
 use std::collections::BTreeSet;
@@ -28,7 +28,7 @@ impl Floor<'_> {
     /// Holds every box's listing and lamps to its rule, its pages to its listing, and what it lists
     /// together with the next to the rule of both.
     pub fn hold_all(&mut self) {
-        for at in 0..RACKS {
+        for at in 0..BOXES {
             self.hold(at);
             self.hold_lamps(at);
             self.hold_pages(at);
@@ -59,7 +59,7 @@ impl Floor<'_> {
     /// After the last compaction: all boxes have seen the same and hold the same keys and the same
     /// tombstone.
     pub fn hold_alike(&mut self) {
-        for at in 1..RACKS {
+        for at in 1..BOXES {
             let (first, other) = (&self.stations[0], &self.stations[at]);
             let alike = first.used() == other.used()
                 && clock(first) == clock(other)
@@ -108,7 +108,7 @@ fn pairs(entries: &[Entry]) -> BTreeSet<(Vec<u8>, Dot)> {
 
 fn clock(station: &Station) -> Vec<(u64, u64)> {
     let state = station.state();
-    let actors = (1..=RACKS as u8).map(Actor);
+    let actors = (1..=ACTOR_MAX).map(Actor);
     actors
         .map(|actor| (state.base(actor), state.window(actor)))
         .collect()

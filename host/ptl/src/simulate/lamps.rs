@@ -1,9 +1,8 @@
 //! What a person sees who walks past the boxes: which bins their lamps light, and how that ends.
 
 use super::floor::Floor;
-use super::goods::{label, part_and_bin, Bin, SPRING, SPRING_BIN, WATCHED};
+use super::goods::{label, part_and_bin, Bin, BOXES, SPRING, SPRING_BIN, WATCHED};
 use super::together::SPRING_BOX;
-use crate::script::RACKS;
 
 /// What was seen right after the racks moved.
 #[derive(Clone, Default)]
@@ -22,8 +21,8 @@ impl Floor<'_> {
     pub fn see_the_move(&mut self) {
         let springs = label(SPRING, SPRING_BIN);
         let seen = AfterMove {
-            springs: (0..RACKS).map(|at| self.lit(at, SPRING)).collect(),
-            together: (0..RACKS).map(|at| self.shown_with_springs(at)).collect(),
+            springs: (0..BOXES).map(|at| self.lit(at, SPRING)).collect(),
+            together: (0..BOXES).map(|at| self.shown_with_springs(at)).collect(),
             lying: self.lighting(&self.gone(&self.moved)),
             lying_springs: self.lighting(&self.gone([&springs])),
         };
@@ -90,8 +89,8 @@ impl Floor<'_> {
             some => format!("; {some} boxes DISAGREED, see above"),
         };
         format!(
-            "Seen: right after the move {lying} of {RACKS} boxes lit a bin that had been taken away \
-             ({springs} of them {SPRING_BIN} for the gas springs), at the end {end}; {agree} of {RACKS} \
+            "Seen: right after the move {lying} of {BOXES} boxes lit a bin that had been taken away \
+             ({springs} of them {SPRING_BIN} for the gas springs), at the end {end}; {agree} of {BOXES} \
              list the {labels} labels that the rule gives over all {messages} messages{verdict}."
         )
     }

@@ -2,8 +2,9 @@
 
 use super::calls::{STORE_FULL, TOO_FAR};
 use super::floor::{Floor, Posted};
+use super::goods::BOXES;
 use super::radio::{Cargo, Flight, Letter};
-use crate::script::{Command, RACKS};
+use crate::script::Command;
 use reference::read_message;
 
 /// Ticks that a box waits for a message before it asks for it.
@@ -20,10 +21,11 @@ impl Floor<'_> {
         let number = self.posted.len();
         self.posted.push(Posted {
             bytes: message,
+            by: at,
             tick: self.tick,
         });
         self.stations[at].accept(number);
-        for to in 0..RACKS {
+        for to in 0..BOXES {
             if to != at && self.is_on(at) {
                 self.send(to, number);
             }
@@ -44,7 +46,7 @@ impl Floor<'_> {
 
     /// A box asks for one of the oldest messages that it lacks and has waited for.
     pub fn ask_again(&mut self) {
-        let to = self.random.below(RACKS);
+        let to = self.random.below(BOXES);
         let numbers = 0..self.posted.len();
         let missed: Vec<usize> = numbers.filter(|n| self.misses(to, *n)).take(20).collect();
         if let (true, Some(number)) = (self.is_on(to), self.random.any(&missed)) {

@@ -1,5 +1,5 @@
-//! `ptl simulate`: a day of sixteen boxes and a bad radio, told in phases. Every box is held to the
-//! rule of demand 3 over what it accepted, and in the end to one rule over all messages.
+//! `ptl simulate`: a day of fifteen boxes, a spare one and a bad radio, told in phases. Every box is held
+//! to the rule of demand 3 over what it accepted, and in the end to one rule over all messages.
 
 mod agreement;
 mod calls;
@@ -13,6 +13,7 @@ mod mail;
 mod picture;
 mod radio;
 mod station;
+mod swap;
 mod tally;
 mod terminal;
 #[cfg(test)]
@@ -86,7 +87,7 @@ fn create(path: &str) -> io::Result<File> {
 fn head(seed: u64, report: &mut dyn Write) -> io::Result<()> {
     writeln!(
         report,
-        "A day of sixteen boxes and a bad radio, seed {seed}."
+        "A day of fifteen boxes, a spare one and a bad radio, seed {seed}."
     )?;
     for phase in &PHASES {
         writeln!(report, "  {:<10} {}", phase.name, phase.story)?;
@@ -130,6 +131,7 @@ fn foot(floor: &Floor, report: &mut dyn Write) -> io::Result<()> {
     let two = floor.together.counts;
     let (reads, reread, news) = (two.reads, two.short, two.news);
     let example = floor.together.example.as_deref().unwrap_or("none");
+    let swap = floor.swap_told();
     write!(
         report,
         "{LEGEND}
@@ -146,6 +148,7 @@ Returns of many boxes, all in {RETURNS_BIN}, were cleared by the goods-in desk i
 of the day has {longest} dots of {CONTEXT_DOTS_MAX}.
 Calls that met a tombstone too full for their dots: {once}; that met it again after the compaction
 that followed, which leaves the tombstone empty: {again}.
+{swap}
 
 Bins that the lamps of each box light at the end of the day, and whether its listing is that of the
 rule of what it accepted and that of one rule of all messages, both computed apart from the boxes. The

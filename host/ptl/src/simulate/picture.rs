@@ -2,7 +2,7 @@
 //! how many lamps are wrong, over the calls of the day, with its phases.
 
 use super::agreement::Sample;
-use crate::script::RACKS;
+use super::goods::BOXES;
 use std::fmt::Write;
 
 const WIDTH: usize = 1000;
@@ -47,7 +47,7 @@ impl Picture {
         let agree = Panel {
             top: TOP,
             bottom: 310,
-            most: RACKS,
+            most: fourfold(Some(BOXES)),
             name: "boxes that agree",
             colour: "#1f6f43",
         };
@@ -80,7 +80,7 @@ impl Picture {
     }
 
     fn front(&self) -> String {
-        let title = "Sixteen boxes and a bad radio: how far they agree";
+        let title = "Fifteen boxes, a spare one and a bad radio: how far they agree";
         let below = format!(
             "with the rule over all messages written so far, computed apart from the boxes; seed {}",
             self.seed

@@ -4,7 +4,7 @@ use super::goods::SET;
 use crate::engine::Engine;
 use crate::rule::tell;
 use crate::script::{Command, Rack, Reply, Worded};
-use limits::STORE_MAX;
+use limits::{IMAGE_MAX, STORE_MAX};
 use ptl::{Entry, Listing, State};
 use reference::{Page, Rule};
 
@@ -13,6 +13,8 @@ use reference::{Page, Rule};
 const STORE: usize = 3072;
 const STORE_MORE: usize = 512;
 const STORE_STEP: usize = 1024;
+/// A box writes an image after so many calls that it kept.
+const IMAGE_EVERY: usize = 60;
 
 /// What a power cut leaves: the block and the used bytes of the store, kept together. The messages
 /// that the box wrote are kept with them (`Floor::posted`), so that they can be sent again.
@@ -21,11 +23,21 @@ struct Flash {
     used: Vec<u8>,
 }
 
+/// A hand-off image that the office keeps, with what was true of its writer then.
+struct Kept {
+    image: Vec<u8>,
+    rule: Rule,
+    accepted: Vec<bool>,
+}
+
 pub struct Station {
     /// The rack that it serves, 0 and up for A and on.
     pub place: u8,
     memory: Rack,
     flash: Flash,
+    /// The last image of the box, and the calls that it kept since.
+    office: Option<Kept>,
+    since_image: usize,
     rule: Rule,
     /// By the message's number: whether it was accepted, in a call that was kept.
     accepted: Vec<bool>,
@@ -46,22 +58,29 @@ pub struct Said {
 }
 
 impl Station {
-    /// A box of this actor, set up and kept. The answer of the set-up comes with it.
-    pub fn set_up(engine: &dyn Engine, actor: u8) -> (Station, u8) {
-        let mut station = Station {
-            place: actor.saturating_sub(1),
+    /// A box that has done nothing, to be set up or to load an image.
+    fn new(place: u8, rule: Rule) -> Station {
+        Station {
+            place,
             memory: Rack::new(),
             flash: Flash {
                 state: State::zero(),
                 used: Vec::new(),
             },
-            rule: Rule::new(actor),
+            office: None,
+            since_image: 0,
+            rule,
             accepted: Vec::new(),
             later: Vec::new(),
             fresh: 0,
             off_until: 0,
             told: false,
-        };
+        }
+    }
+
+    /// A box of this actor, set up and kept. The answer of the set-up comes with it.
+    pub fn set_up(engine: &dyn Engine, actor: u8) -> (Station, u8) {
+        let mut station = Station::new(actor.saturating_sub(1), Rule::new(actor));
         let name = SET.to_vec();
         let said = station.call(engine, &Command::Setup { actor, name });
         let length = STORE + STORE_MORE * usize::from(station.place);
@@ -99,6 +118,55 @@ impl Station {
     pub fn keep(&mut self) {
         self.flash.state = self.memory.state.clone();
         self.flash.used = self.used().to_vec();
+        self.since_image += 1;
+    }
+
+    /// Whether it is time for an image.
+    pub fn wants_image(&self) -> bool {
+        self.since_image >= IMAGE_EVERY
+    }
+
+    /// Writes an image, which goes to the office; the answer.
+    pub fn write_image(&mut self, engine: &dyn Engine) -> u8 {
+        let mut image = vec![0; IMAGE_MAX];
+        let reply = self.ask(engine, &Command::Image { out: IMAGE_MAX }, &mut image);
+        if let Reply::Wrote(wrote) = reply {
+            image.truncate(wrote.written);
+        }
+        if reply.answer() == 0 {
+            self.office = Some(Kept {
+                image,
+                rule: self.rule.clone(),
+                accepted: self.accepted.clone(),
+            });
+            self.since_image = 0;
+        }
+        reply.answer()
+    }
+
+    /// Calls kept since the last image; none if there is no image.
+    pub fn age_of_image(&self) -> Option<usize> {
+        self.office.as_ref().map(|_| self.since_image)
+    }
+
+    /// Whether a message was accepted before the last image.
+    pub fn is_in_image(&self, number: usize) -> bool {
+        let kept = self.office.as_ref();
+        kept.is_some_and(|kept| kept.accepted.get(number) == Some(&true))
+    }
+
+    /// The box dies, with its flash, and another takes its place: it loads the last image as this
+    /// actor, into a store as long. The answer, if there is an image.
+    pub fn swap(&mut self, engine: &dyn Engine, actor: u8) -> Option<u8> {
+        let kept = self.office.take()?;
+        let mut station = Station::new(self.place, kept.rule.handed_off(actor));
+        station.memory.lend(self.memory.store.len(), 0xDB);
+        station.accepted = kept.accepted;
+        let image = kept.image;
+        let said = station.call(engine, &Command::Load { actor, image });
+        station.keep();
+        *self = station;
+        Some(said.answer)
     }
 
     /// Whether working memory is what was kept.

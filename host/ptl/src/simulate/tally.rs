@@ -1,6 +1,6 @@
 //! The counts of a phase, and its line.
 
-use crate::script::RACKS;
+use super::goods::BOXES;
 use limits::ANSWERS;
 
 /// What happened in a phase.
@@ -48,7 +48,7 @@ impl Tally {
         let given = self.answers.iter().enumerate().filter(|(_, n)| **n > 0);
         let given: Vec<String> = given.map(|(a, n)| format!("{a}:{n}")).collect();
         format!(
-            "{phase:<10}{counts}   {agree:>2}/{RACKS}  {}",
+            "{phase:<10}{counts}   {agree:>2}/{BOXES}  {}",
             given.join(" ")
         )
     }

@@ -2,10 +2,10 @@
 //! pages, while the boxes work. Each page is held to the rule of what its box has accepted by then.
 
 use super::floor::Floor;
+use super::goods::BOXES;
 use super::station::Station;
 use crate::engine::Engine;
 use crate::random::Random;
-use crate::script::RACKS;
 use limits::STORE_MAX;
 use ptl::{Answer, Listing, State};
 use reference::Page;
@@ -57,7 +57,7 @@ impl Terminal {
 
     /// Goes to a box, to read its listing from the front.
     fn walk_on(&mut self) {
-        self.at = self.random.below(RACKS);
+        self.at = self.random.below(BOXES);
         self.start.clear();
         self.room = self.random.pick(&ROOMS);
         self.first = None;

@@ -1,7 +1,7 @@
 //! The simulation finds what it is for: boxes with one fault each are told, with seed and call.
 
 use super::floor::Floor;
-use super::goods::{label, part_and_bin, Bin, BINS};
+use super::goods::{label, part_and_bin, Bin, BINS, BOXES};
 use super::radio::{Cargo, Letter, Radio};
 use super::station::Station;
 use super::tally::Tally;
@@ -9,7 +9,7 @@ use super::weather::Weather;
 use super::{simulate, Options};
 use crate::engine::{Engine, Fault, Faulty, Product};
 use crate::random::Random;
-use crate::script::{Command, RACKS};
+use crate::script::Command;
 use limits::MESSAGE_MAX;
 use ptl::{dots_to_bytes, Dot, Listing};
 use std::collections::BTreeSet;
@@ -26,16 +26,26 @@ fn run(engine: &dyn Engine, seed: u64, quiet: bool) -> (u8, String) {
     (status, String::from_utf8(report).expect("ASCII"))
 }
 
-/// The disagreements that a run with this fault tells of, in order.
-fn all_told(fault: Fault) -> Vec<String> {
+/// The report of a run with this fault, which must tell of a disagreement.
+fn report_of(fault: Fault) -> String {
     let (status, report) = run(&Faulty::new(&Product, fault), 7, false);
     assert_eq!(status, 1, "{fault:?}: {report}");
     let last = report.lines().last().unwrap_or_default();
     assert!(last.starts_with("Seen: "), "{fault:?}: {last}");
     assert!(last.contains("DISAGREED"), "{fault:?}: {last}");
+    report
+}
+
+/// The disagreements that a report tells of, in order.
+fn told_in(report: &str) -> Vec<String> {
     let lines = report.lines();
     let told = lines.filter(|line| line.starts_with("DISAGREEMENT: seed 7, call "));
     told.map(str::to_string).collect()
+}
+
+/// Those of a run with this fault.
+fn all_told(fault: Fault) -> Vec<String> {
+    told_in(&report_of(fault))
 }
 
 /// The first of them.
@@ -54,7 +64,9 @@ fn a_removed_dot_that_is_dropped_is_told() {
 
 #[test]
 fn a_message_that_is_forgotten_is_told() {
-    assert!(told(Fault::MessageForgotten).ends_with("by the rule of what it accepted"));
+    let lines = all_told(Fault::MessageForgotten);
+    let what = "by the rule of what it accepted";
+    assert!(lines.iter().any(|line| line.ends_with(what)), "{lines:?}");
 }
 
 #[test]
@@ -171,6 +183,68 @@ fn two_boxes_show_together_what_neither_lists_alone() {
     assert_eq!(floor.new_faults(), Vec::<String>::new());
 }
 
+/// The box that dies has added two labels by its image and moved one of them since; box 2 has heard of
+/// all.
+#[test]
+fn a_box_is_swapped_from_its_last_image() {
+    let mut floor = Floor::new(&Product, 1);
+    assert!(floor.own(6, &add("BOLT@B1", &[])));
+    assert!(floor.own(6, &add("NUT@B2", &[])));
+    assert_eq!(floor.stations[6].write_image(&Product), 0);
+    assert!(floor.own(6, &add("BOLT@C1", &[Dot::from((7, 1))])));
+    for number in 0..3 {
+        hear(&mut floor, 2, number);
+    }
+    let listed = |floor: &Floor, at: usize| floor.stations[at].listing(&Product).map(labels);
+    let (old, new) = (["BOLT@B1", "NUT@B2"], ["BOLT@C1", "NUT@B2"]);
+    let some = |labels: [&str; 2]| Some(labels.map(String::from).to_vec());
+    floor.swap();
+    assert_eq!(listed(&floor, 6), some(old), "as the image has it");
+    assert_eq!(listed(&floor, 2), some(new));
+    assert!(floor.own(6, &add("PIN@B3", &[])));
+    let first = floor.posted.last().expect("sent").bytes.clone();
+    assert!(first
+        .windows(9)
+        .any(|dot| dot == Dot::from((16, 1)).to_bytes()));
+    hear(&mut floor, 2, 3);
+    hear(&mut floor, 6, 2);
+    assert_eq!(listed(&floor, 6), listed(&floor, 2));
+    floor.hold(6);
+    assert_eq!(floor.new_faults(), Vec::<String>::new());
+}
+
+/// The box that died at noon, by the report of a day.
+fn dead_box(report: &str) -> &str {
+    let (_, after) = report.split_once("At noon box ").expect("told");
+    after.split(' ').next().unwrap_or_default()
+}
+
+#[test]
+fn a_swap_that_forgets_removes_is_told() {
+    let report = report_of(Fault::ImageForgetsRemoves);
+    let line = &told_in(&report)[0];
+    let of_box = format!("(lunch), box {}: lists ", dead_box(&report));
+    assert!(line.contains(&of_box), "{line}");
+    assert!(
+        line.ends_with("and should not, by the rule of what it accepted"),
+        "{line}"
+    );
+}
+
+/// The new box gives dots of the dead one a second time, and boxes that have them do not store its
+/// labels.
+#[test]
+fn a_swap_under_the_dead_boxs_actor_is_told() {
+    let report = report_of(Fault::LoadKeepsWriter);
+    let again = format!("(dot {}:", dead_box(&report));
+    let lines = told_in(&report);
+    let told = |line: &String| line.contains(": does not list ") && line.contains(&again);
+    assert!(
+        lines.iter().filter(|line| told(line)).count() > 1,
+        "{lines:?}"
+    );
+}
+
 #[test]
 fn noise_that_is_accepted_is_told() {
     assert!(told(Fault::NoiseAccepted).ends_with("accepts what is no call of the rules"));
@@ -282,7 +356,7 @@ fn a_power_cut_leaves_what_was_kept() {
 
 #[test]
 fn labels_are_read_as_they_are_written() {
-    for rack in 0..RACKS as u8 {
+    for rack in 0..BOXES as u8 {
         for number in 1..=BINS {
             let bin = Bin { rack, number };
             assert_eq!(part_and_bin(&label("BOLT-M8", bin)), Some(("BOLT-M8", bin)));

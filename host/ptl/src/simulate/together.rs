@@ -3,10 +3,9 @@
 //! held to the rule of what either has accepted by then.
 
 use super::floor::Floor;
-use super::goods::SPRING_BIN;
+use super::goods::{BOXES, SPRING_BIN};
 use super::hold::differs;
 use crate::random::Random;
-use crate::script::RACKS;
 use limits::STORE_MAX;
 use ptl::{Answer, Entry, Listing};
 use std::collections::BTreeSet;
@@ -53,8 +52,8 @@ impl Together {
 
     /// Two boxes.
     fn boxes(&mut self) -> [usize; 2] {
-        let (one, further) = (self.random.below(RACKS), self.random.between(1, RACKS - 1));
-        [one, (one + further) % RACKS]
+        let (one, further) = (self.random.below(BOXES), self.random.between(1, BOXES - 1));
+        [one, (one + further) % BOXES]
     }
 }
 
@@ -117,7 +116,7 @@ impl Floor<'_> {
 
     /// Holds what a box and the next one list as one to the rule, asked either way.
     pub fn hold_together(&mut self, at: usize) {
-        let next = (at + 1) % RACKS;
+        let next = (at + 1) % BOXES;
         for boxes in [[at, next], [next, at]] {
             let _ = self.read_two(boxes, AMPLE);
         }

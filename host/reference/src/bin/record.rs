@@ -19,6 +19,8 @@ mod controller;
 mod edges;
 #[path = "record/fields.rs"]
 mod fields;
+#[path = "record/images.rs"]
+mod images;
 #[path = "record/recording.rs"]
 mod recording;
 #[path = "record/world.rs"]
@@ -27,6 +29,7 @@ mod world;
 use common::Xorshift;
 use console::answers;
 use recording::{Recording, Tally, CALLS};
+use reference::limits::ANSWERS;
 use std::fmt::Write as _;
 use std::io::{Read, Write as _};
 use world::World;
@@ -35,7 +38,7 @@ use world::World;
 type Block = fn(&mut Recording);
 
 /// The fixed blocks, and what each is about.
-const BLOCKS: [(&str, Block); 14] = [
+const BLOCKS: [(&str, Block); 15] = [
     ("Set-ups", edges::set_ups),
     ("Lines that break the form", edges::broken_lines),
     ("Own calls and lookups", edges::own_calls),
@@ -43,6 +46,7 @@ const BLOCKS: [(&str, Block); 14] = [
     ("A store with labels that do not print", edges::older_store),
     ("Pages", edges::pages),
     ("Merged reads", edges::merges),
+    ("Images", images::images),
     ("Windows", edges::windows),
     ("Largest counters", edges::largest_counters),
     ("Stores", edges::stores),
@@ -73,12 +77,14 @@ fn recorded(seed: u64, calls: usize) -> Recording {
 /// How often each call gave each answer, as a table.
 fn table(tally: &Tally) -> String {
     let mut text = format!("{:11}", "call");
-    for answer in 0..=13 {
+    let answers = 0..ANSWERS as u8;
+    for answer in answers.clone() {
         write!(text, "{answer:>5}").expect("a string takes all");
     }
     for call in CALLS {
         let count = |answer| tally.get(&(call, answer)).unwrap_or(&0);
-        let counts: String = (0..=13).map(|a| format!("{:>5}", count(a))).collect();
+        let counts = answers.clone().map(|a| format!("{:>5}", count(a)));
+        let counts: String = counts.collect();
         write!(text, "\n{call:11}{counts}").expect("a string takes all");
     }
     text

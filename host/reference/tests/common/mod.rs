@@ -7,6 +7,8 @@ use reference::*;
 pub const LARGEST: u64 = u64::MAX;
 /// An output with room for any message.
 pub const MESSAGE_ROOM: usize = 700;
+/// Room for all of an image but its keys.
+pub const IMAGE_ROOM: usize = 1500;
 /// What unused output and store bytes hold before a call.
 const FILL: u8 = 0xA5;
 
@@ -153,6 +155,30 @@ impl Bench {
         merged
     }
 
+    /// Writes an image in an output of this length: answer and bytes.
+    pub fn image_into(&self, room: usize) -> (u8, Vec<u8>) {
+        let mut out = vec![FILL; room];
+        let (answer, count) = write_image(&self.state, &self.store, &mut out);
+        assert!(answer == 0 || count == 0);
+        (answer, written(&out, count))
+    }
+
+    /// The same with an ample output.
+    pub fn image(&self) -> (u8, Vec<u8>) {
+        self.image_into(IMAGE_ROOM + self.store.len())
+    }
+
+    /// Loads an image into this store as this actor. Refused, it leaves the zero state.
+    pub fn load(&mut self, actor: u8, image: &[u8]) -> u8 {
+        let before = self.store.clone();
+        let (answer, state) = load_image(actor, image, &mut self.store);
+        self.state = state;
+        let used = self.state.used as usize;
+        assert_eq!(self.store[used..], before[used..]);
+        assert!(answer == 0 || self.state == State::zero());
+        answer
+    }
+
     pub fn lookup(&self, label: &[u8]) -> Looked {
         lookup(&self.state, &self.store, label)
     }
@@ -237,6 +263,69 @@ pub fn remove_message(name: &[u8], context: &[(u8, u64)]) -> Vec<u8> {
     bytes.push(context.len() as u8);
     bytes.extend(dots(context));
     bytes
+}
+
+/// The fields of an image after its kind, to be written by hand.
+#[derive(Clone)]
+pub struct ImageFields {
+    pub name: Vec<u8>,
+    pub actor: u8,
+    /// Base and window of each actor in turn.
+    pub rows: [(u64, u64); 16],
+    pub tombstone: Vec<(u8, u64)>,
+    pub keys: Vec<u8>,
+}
+
+impl ImageFields {
+    /// Those of a box of set "R1" that has seen nothing.
+    pub fn new(actor: u8) -> ImageFields {
+        ImageFields {
+            name: b"R1".to_vec(),
+            actor,
+            rows: [(0, 0); 16],
+            tombstone: Vec::new(),
+            keys: Vec::new(),
+        }
+    }
+
+    /// Those of a box of actor 1 with three keys, two dots in its tombstone, and rows with a base, a
+    /// window, and both. One label does not print.
+    pub fn lived() -> ImageFields {
+        let mut fields = ImageFields::new(1);
+        fields.rows[0] = (2, 0);
+        fields.rows[1] = (4, 0b110);
+        fields.rows[4] = (0, 0b10);
+        fields.tombstone = vec![(1, 2), (2, 6)];
+        let keys = [
+            key(b"B7", (1, 1)),
+            key(b"B8", (1, 2)),
+            key(b"C\x07", (5, 2)),
+        ];
+        fields.keys = keys.concat();
+        fields
+    }
+
+    /// The image with its CRC; nothing is checked.
+    pub fn bytes(&self) -> Vec<u8> {
+        let mut bytes = b"PTL\x00\x01i".to_vec();
+        bytes.push(self.name.len() as u8);
+        bytes.extend(&self.name);
+        bytes.push(self.actor);
+        for (base, window) in self.rows {
+            bytes.extend(base.to_be_bytes());
+            bytes.extend(window.to_be_bytes());
+        }
+        bytes.push(self.tombstone.len() as u8);
+        bytes.extend(dots(&self.tombstone));
+        bytes.extend((self.keys.len() as u32).to_be_bytes());
+        bytes.extend(&self.keys);
+        sealed(&bytes)
+    }
+}
+
+/// Bytes with their CRC after them.
+pub fn sealed(bytes: &[u8]) -> Vec<u8> {
+    [bytes, &crc32(bytes).to_be_bytes()].concat()
 }
 
 /// A label key of set "R1", written by hand.

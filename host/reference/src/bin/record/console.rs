@@ -86,6 +86,8 @@ fn call(controller: &mut Controller, word: &[u8], given: &Fields) -> Result<Stri
         b"page" => controller.page(&given.field(1, text)?, given.last(2, size::<OUT>)?),
         b"lookup" => controller.lookup(&given.last(1, text)?),
         b"compact" => given.end(0).map(|()| controller.compact())?,
+        b"image" => controller.image(given.last(1, size::<OUT>)?),
+        b"load" => controller.load(given.field(1, byte)?, &given.last(2, hex)?),
         b"state" => given.end(0).map(|()| controller.shown_state())?,
         b"store" => given.end(0).map(|()| controller.shown_store())?,
         b"buffer" => controller.lend(given.field(1, size::<BUFFER>)?, given.last(2, byte)?),

@@ -96,6 +96,18 @@ impl Controller {
         format!("compact {}", done.answer)
     }
 
+    pub fn image(&self, room: usize) -> String {
+        let mut out = vec![FILL; room];
+        let (answer, written) = write_image(&self.state, &self.store, &mut out);
+        format!("image {answer} {}", front(&out, written))
+    }
+
+    pub fn load(&mut self, actor: u8, image: &[u8]) -> String {
+        let (answer, state) = load_image(actor, image, &mut self.store);
+        self.state = state;
+        format!("load {answer}")
+    }
+
     // ---- what looks
 
     pub fn shown_state(&self) -> String {

@@ -9,7 +9,7 @@ use reference::{DAMAGED, STORE_FULL};
 const MOST: u64 = CONTEXT_DOTS_MAX as u64;
 
 /// Lines that break the form: no command, a field too few, no number.
-const BROKEN: [&str; 19] = [
+const BROKEN: [&str; 25] = [
     "x",
     "Compact",
     "setups 1 R1",
@@ -20,6 +20,9 @@ const BROKEN: [&str; 19] = [
     "page -",
     "merge @0 @1",
     "lookup",
+    "image",
+    "load",
+    "load 3",
     "buffer 64",
     "setup x R1",
     "add B7 - 1x",
@@ -28,6 +31,9 @@ const BROKEN: [&str; 19] = [
     "page B7 x",
     "merge 0 @1 64",
     "merge @0 @16 64",
+    "image -",
+    "load 256 -",
+    "load 3 5g",
     "buffer 6F 0",
 ];
 
@@ -517,6 +523,7 @@ pub fn damage(recording: &mut Recording) {
         node.lookup(b"B7");
         node.merge(0, AMPLE);
         node.say("merge @2 @1 0");
+        node.image(AMPLE);
         let last = node.say("compact");
         assert_eq!(last.answer, Some(DAMAGED), "{poke}");
     }

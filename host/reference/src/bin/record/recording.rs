@@ -10,7 +10,7 @@ pub const AMPLE: usize = 1024;
 /// The controllers that are spoken to.
 pub const CONTROLLERS: usize = 4;
 /// The commands that are calls.
-pub const CALLS: [&str; 12] = [
+pub const CALLS: [&str; 14] = [
     "setup",
     "add",
     "remove",
@@ -20,12 +20,14 @@ pub const CALLS: [&str; 12] = [
     "merge",
     "lookup",
     "compact",
+    "image",
+    "load",
     "key",
     "readkey",
     "readmessage",
 ];
 /// The calls that may change a state or a store.
-const CHANGING: [&str; 5] = ["setup", "add", "remove", "take", "compact"];
+const CHANGING: [&str; 6] = ["setup", "add", "remove", "take", "compact", "load"];
 /// After so many of them state and store are shown.
 const SHOWN_AFTER: usize = 4;
 
@@ -201,6 +203,14 @@ impl Node<'_> {
 
     pub fn compact(&mut self) {
         self.say("compact");
+    }
+
+    pub fn image(&mut self, out: usize) -> Reply {
+        self.say(&format!("image {out}"))
+    }
+
+    pub fn load(&mut self, actor: u8, image: &[u8]) -> Reply {
+        self.say(&format!("load {actor} {}", hex_of(image)))
     }
 
     /// Lends a store of another length. What stands past the used bytes is lost, so it is shown first.

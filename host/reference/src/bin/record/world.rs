@@ -1,7 +1,8 @@
 //! Controllers of one set that make random calls and exchange messages, which are lost, repeated,
-//! shuffled, cut and garbled.
+//! shuffled, cut and garbled. Now and then one is swapped for another, which loads an image.
 
 use crate::common::{add_message, dots, key, remove_message, Xorshift, LARGEST};
+use crate::images::IMAGE;
 use crate::recording::{Node, Recording, Reply, AMPLE, CONTROLLERS};
 use reference::limits::CONTEXT_DOTS_MAX;
 
@@ -22,6 +23,7 @@ pub struct World<'a> {
     name: &'static [u8],
     actors: Vec<u8>,
     sent: Vec<Vec<u8>>,
+    images: Vec<Vec<u8>>,
     /// Contexts, labels, messages and states may break rules.
     wild: bool,
 }
@@ -48,6 +50,7 @@ impl World<'_> {
             name,
             actors,
             sent: Vec::new(),
+            images: Vec::new(),
             wild,
         }
     }
@@ -79,6 +82,8 @@ impl World<'_> {
             56..=62 if self.wild => self.stray(random, at),
             63..=68 if self.wild => self.garbled(random, at),
             69 if self.wild => self.damaged(random, at),
+            70..=71 => self.image(random, at),
+            72 => self.swap(random, at),
             _ => self.deliver(random, at),
         }
     }
@@ -265,6 +270,35 @@ impl World<'_> {
         }
         self.node(at).read_message(&message);
         self.node(at).take(&message);
+    }
+
+    /// A controller writes an image, which is kept.
+    fn image(&mut self, random: &mut Xorshift, at: usize) {
+        let out = if random.chance(90) { IMAGE } else { 275 };
+        let reply = self.node(at).image(out);
+        self.images.extend(reply.message());
+    }
+
+    /// A controller dies, and another loads an image in its place, as an actor that none had; mostly
+    /// after the image came garbled, or the actor was another.
+    fn swap(&mut self, random: &mut Xorshift, at: usize) {
+        let fresh = (1..=16).find(|actor| !self.actors.contains(actor));
+        let (false, Some(fresh)) = (self.images.is_empty(), fresh) else {
+            return;
+        };
+        let image = random.pick(&self.images).clone();
+        let mut garbled = image.clone();
+        match random.below(4) {
+            0 => garbled[random.below(image.len() as u64) as usize] ^= 1 << random.below(8),
+            1 => garbled.truncate(random.below(image.len() as u64) as usize),
+            _ => (),
+        }
+        let actor = self.actor(random);
+        self.node(at).load(actor, &garbled);
+        self.node(at).lend(STORE);
+        if self.node(at).load(fresh, &image).message().is_some() {
+            self.actors.push(fresh);
+        }
     }
 
     /// A controller that is damaged for two calls, which change nothing, and whole again.
