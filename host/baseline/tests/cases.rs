@@ -585,7 +585,7 @@ fn merged_reads_of_either_side<F: Form>() {
 }
 
 /// The bytes with their CRC after them.
-fn sealed(bytes: &[u8]) -> Vec<u8> {
+fn with_crc(bytes: &[u8]) -> Vec<u8> {
     [bytes, &crc32(bytes).to_be_bytes()].concat()
 }
 
@@ -633,7 +633,7 @@ fn an_image_loaded_and_written_again<F: Form>() {
     assert_eq!(other.load(3, &image), 0);
     let mut again = image[..image.len() - CRC_SIZE].to_vec();
     again[9] = 3;
-    assert_eq!(other.image(400), (0, sealed(&again)));
+    assert_eq!(other.image(400), (0, with_crc(&again)));
     assert_eq!(other.list(), one.list());
     assert_eq!(other.block[1..], one.block[1..]);
     other.store.resize(100, FILL);
@@ -643,7 +643,7 @@ fn an_image_loaded_and_written_again<F: Form>() {
 }
 
 fn images_that_are_none<F: Form>() {
-    let image = sealed(&a1_image());
+    let image = with_crc(&a1_image());
     let load = |bytes: &[u8]| Rack::<F>::new(9).load(2, bytes);
     assert_eq!(load(&image), 0);
     for length in 0..image.len() {
@@ -659,7 +659,7 @@ fn images_that_are_none<F: Form>() {
     ] {
         let mut changed = a1_image();
         changed[at] = byte;
-        assert_eq!(load(&sealed(&changed)), answer);
+        assert_eq!(load(&with_crc(&changed)), answer);
     }
     for bit in 0..8 * image.len() {
         let mut changed = image.clone();
@@ -673,7 +673,7 @@ fn images_whose_contents_break_a_rule<F: Form>() {
     let load = |at: usize, byte: u8| {
         let mut changed = a1_image();
         changed[at] = byte;
-        Rack::<F>::new(9).load(2, &sealed(&changed))
+        Rack::<F>::new(9).load(2, &with_crc(&changed))
     };
     let (name, actor, base, window, key) = (7, 9, 17, 25, 271);
     assert_eq!([load(name, 0), load(actor, 0), load(actor, 17)], [5; 3]);
@@ -685,7 +685,7 @@ fn images_whose_contents_break_a_rule<F: Form>() {
         head[base] = 255;
         let dots = dots(&dots_of(1, 1..=count));
         let image = [&head[..], &[count as u8], &dots, &[0; 4]].concat();
-        assert_eq!(Rack::<F>::new(9).load(2, &sealed(&image)), answer);
+        assert_eq!(Rack::<F>::new(9).load(2, &with_crc(&image)), answer);
     }
 }
 

@@ -116,7 +116,7 @@ fn mark_version_and_kind() {
     let with = |at: usize, byte: u8| {
         let mut changed = whole[..whole.len() - 4].to_vec();
         changed[at] = byte;
-        loaded(&sealed(&changed)).0
+        loaded(&with_crc(&changed)).0
     };
     assert_eq!([with(0, b'Q'), with(1, b't'), with(2, 0)], [2; 3]);
     assert_eq!([with(3, 1), with(4, 0), with(4, 2), with(3, 255)], [3; 4]);
@@ -138,7 +138,7 @@ fn every_length_but_its_own() {
         assert_eq!(loaded(&whole[..length]).0, answer, "{length}");
     }
     for length in 5..whole.len() - 4 {
-        assert_eq!(loaded(&sealed(&whole[..length])).0, 4, "{length}");
+        assert_eq!(loaded(&with_crc(&whole[..length])).0, 4, "{length}");
     }
     for more in [1, 4, 9] {
         assert_eq!(loaded(&[&whole[..], &vec![0; more]].concat()).0, 4);
@@ -164,7 +164,7 @@ fn lengths_that_do_not_add_up() {
     ] {
         let mut changed = whole[..whole.len() - 4].to_vec();
         changed[at] = byte;
-        assert_eq!(loaded(&sealed(&changed)).0, 4, "{at} {byte}");
+        assert_eq!(loaded(&with_crc(&changed)).0, 4, "{at} {byte}");
     }
 }
 
@@ -380,7 +380,7 @@ fn written_again_at_once() {
         let places = differing(&image, &again);
         assert_eq!(places.iter().find(elsewhere), None, "{places:?}");
         assert!(places.iter().any(|at| *at >= crc_at));
-        assert_eq!(again, sealed(&again[..crc_at]));
+        assert_eq!(again, with_crc(&again[..crc_at]));
     }
 }
 

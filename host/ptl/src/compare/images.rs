@@ -52,13 +52,13 @@ impl Fields {
         bytes.extend(dots_to_bytes(&self.dots));
         bytes.extend((self.keys.len() as u32).to_be_bytes());
         bytes.extend(&self.keys);
-        seal(&mut bytes);
+        put_crc(&mut bytes);
         bytes
     }
 }
 
 /// Puts the CRC after these bytes.
-fn seal(bytes: &mut Vec<u8>) {
+fn put_crc(bytes: &mut Vec<u8>) {
     let crc = reference::crc32(bytes);
     bytes.extend(crc.to_be_bytes());
 }
@@ -70,7 +70,7 @@ pub fn written_again(image: &[u8], actor: u8) -> Vec<u8> {
     if let Some(of_writer) = again.get_mut(MESSAGE_HEAD + usize::from(name)) {
         *of_writer = actor;
     }
-    seal(&mut again);
+    put_crc(&mut again);
     again
 }
 
@@ -96,7 +96,7 @@ fn on_the_way(random: &mut Random, mut image: Vec<u8>) -> Vec<u8> {
         1 => {
             image.truncate(image.len() - CRC_SIZE);
             garble(random, &mut image);
-            seal(&mut image);
+            put_crc(&mut image);
         }
         _ => {
             let at = random.below(image.len());

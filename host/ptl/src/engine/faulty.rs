@@ -168,7 +168,7 @@ impl<'a> Faulty<'a> {
 
     fn load(&self, rack: &mut Rack, actor: u8, image: &[u8]) -> Reply {
         let image = match self.has(Fault::ChecksumUnread) {
-            true => sealed(image),
+            true => with_crc(image),
             false => image.to_vec(),
         };
         let writer = image.get(actor_at(&image)).copied().map(Actor);
@@ -317,7 +317,7 @@ fn actor_at(image: &[u8]) -> usize {
 }
 
 /// An image with a right CRC in place of its own.
-fn sealed(image: &[u8]) -> Vec<u8> {
+fn with_crc(image: &[u8]) -> Vec<u8> {
     let (body, _) = image.split_at(image.len().saturating_sub(CRC_SIZE));
     [body, &reference::crc32(body).to_be_bytes()].concat()
 }

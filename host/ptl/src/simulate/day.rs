@@ -62,8 +62,9 @@ pub const PHASES: [Phase; 5] = [
     },
     Phase {
         name: "lunch",
-        story: "a box dies, and the spare one takes its place; racks change places, all at once; the gas springs go\n             \
-                from B7 to C2; goods-in clears E12",
+        story:
+            "a box dies, and the spare one takes its place; racks change places, all at once; the\n\
+                \x20            gas springs go from B7 to C2; goods-in clears E12",
         plan: Plan::Move,
         weather: Weather::FOUL,
         rounds: 1,

@@ -1,4 +1,5 @@
-//! The shop floor: fifteen boxes and a spare one, the radio between them, and one rule over all messages.
+//! The shop floor: fifteen boxes and a spare one, the radio between them, and one rule over all
+//! messages.
 
 use super::agreement::Sample;
 use super::calls::Blocked;

@@ -1,5 +1,5 @@
-//! `ptl simulate`: a day of fifteen boxes, a spare one and a bad radio, told in phases. Every box is held
-//! to the rule of demand 3 over what it accepted, and in the end to one rule over all messages.
+//! `ptl simulate`: a day of fifteen boxes, a spare one and a bad radio, told in phases. Every box is
+//! held to the rule of demand 3 over what it accepted, and in the end to one rule over all messages.
 
 mod agreement;
 mod calls;

@@ -40,10 +40,10 @@ impl Floor<'_> {
     }
 
     /// The box dies that has written the most messages since its image; that of the gas springs and
-    /// that of the goods-in desk live on.
+    /// that of the goods-in desk do not.
     pub fn swap(&mut self) {
-        let mortal = (0..BOXES).filter(|at| ![SPRING_BOX, GOODS_IN].contains(at));
-        let swaps = mortal.filter_map(|at| self.swap_of(at));
+        let boxes = (0..BOXES).filter(|at| ![SPRING_BOX, GOODS_IN].contains(at));
+        let swaps = boxes.filter_map(|at| self.swap_of(at));
         let Some(swap) = swaps.max_by_key(|swap| swap.written) else {
             return;
         };
@@ -89,9 +89,10 @@ impl Floor<'_> {
         };
         let number = at + 1;
         format!(
-            "At noon box {number} died, and its flash with it. The spare one took its place as actor {SPARE}, which no box had\n\
-             used: it loaded the last image of box {number}, {age} calls old. The {written} messages that box {number} had written since\n\
-             and {taken} that it had taken in came to the new one again, from others or the office; at the end it {end}."
+            "At noon box {number} died, and its flash with it. The spare one took its place as actor \
+             {SPARE}, which no box\nhad used: it loaded the last image of box {number}, {age} calls old. \
+             The {written} messages that box {number} had\nwritten since and {taken} that it had taken in \
+             came to the new one again, from others or the office; at the\nend it {end}."
         )
     }
 }

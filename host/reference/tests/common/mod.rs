@@ -319,12 +319,12 @@ impl ImageFields {
         bytes.extend(dots(&self.tombstone));
         bytes.extend((self.keys.len() as u32).to_be_bytes());
         bytes.extend(&self.keys);
-        sealed(&bytes)
+        with_crc(&bytes)
     }
 }
 
 /// Bytes with their CRC after them.
-pub fn sealed(bytes: &[u8]) -> Vec<u8> {
+pub fn with_crc(bytes: &[u8]) -> Vec<u8> {
     [bytes, &crc32(bytes).to_be_bytes()].concat()
 }
 

@@ -1,6 +1,6 @@
 //! A block of images written and loaded, on both sides of each rule, the same in every recording.
 
-use crate::common::{add_message, dots, dots_of, key, sealed, ImageFields, LARGEST};
+use crate::common::{add_message, dots, dots_of, key, with_crc, ImageFields, LARGEST};
 use crate::recording::{Node, Recording};
 use reference::{DONE, STORE_FULL};
 
@@ -76,7 +76,7 @@ fn other_bytes(node: &mut Node) {
     for (at, byte) in FAULTS {
         let mut changed = body.to_vec();
         changed[at] = byte;
-        node.load(FRESH, &sealed(&changed));
+        node.load(FRESH, &with_crc(&changed));
     }
     for at in [
         0,
