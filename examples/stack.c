@@ -1,7 +1,6 @@
 /* How much stack the calls take. Each call runs on a painted stack of its own; what is counted are the bytes from the caller's frame down to
    the lowest one that changed, so the caller's few are in. Prints the most for each function over calls on full stores and full tombstones,
-   accepted and refused, and exits 1 if one is over STACK_ENOUGH, or a merged read, which holds two states, over STACK_ENOUGH_TWO: the
-   numbers that docs/INTEGRATION.md gives.
+   accepted and refused, and exits 1 if one is over STACK_ENOUGH, the number that docs/INTEGRATION.md gives.
 
      cc -std=c99 -O2 -Wl,-z,now -Iinclude -o stack examples/stack.c target/staticlib/libcapi.a
 
@@ -15,7 +14,6 @@
 #include "ptl.h"
 
 #define STACK_ENOUGH 8192
-#define STACK_ENOUGH_TWO 16384
 #define PAINT 0xA5
 
 /* ---- measuring */
@@ -372,7 +370,7 @@ int main(void)
     bool enough = true;
     for (const struct row *row = rows; row < rows + ROWS; row++) {
         printf("%-17s%5zu bytes (%zu accepted, %zu refused)\n", row->name, row->most, row->accepted, row->refused);
-        enough = enough && row->most <= (row->call == merge ? STACK_ENOUGH_TWO : STACK_ENOUGH);
+        enough = enough && row->most <= STACK_ENOUGH;
     }
     return enough ? 0 : 1;
 }

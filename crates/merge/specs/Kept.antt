@@ -1,5 +1,5 @@
 -- The dots of a label that two stores hold, one after the other, and which of them are kept.
-use Prim.Native.Nat.{ℕ, _≤_}
+use Prim.Native.Nat.{ℕ, _*_, _≤_}
 use mathlib.Core.Bool.{Bool, true, not, cond, _&&_, _||_}
 use mathlib.Core.List.{List}
 use mathlib.Core.Path.{_≡_}
@@ -9,7 +9,7 @@ use Rattle.wire.specs.Lists.{isLt}
 use Rattle.wire.specs.Bytes.{Bytes, putAt}
 use Rattle.dots.specs.declared.Dot.{Dot}
 use Rattle.dots.specs.Dots.{actorOf, dotOf, compareDots, ascendingDots}
-use Rattle.dots.specs.Wire.{dotsOf}
+use Rattle.dots.specs.Wire.{dotsOf, dotSize}
 use Rattle.slots.specs.Slots.{Slotted}
 use Rattle.clock.specs.Clock.{sees}
 use Rattle.store.specs.Cut.{keyDot}
@@ -46,11 +46,17 @@ keepsNext s next =
 abbrev pub sidesOf : Bytes → ℕ → List ℕ → List ℕ → Sides
 sidesOf dead split here there = record { tombstone = take split dead; words = here; tombstone′ = drop split dead; words′ = there }
 
--- what asking them counts on: ascending dots, all with their slots set
-pub record TwoTombstones (dead : Bytes) (split : ℕ) (slots : Bytes) : Type 0 where
+-- two tombstones that stand so, each of ascending dots
+pub record EndToEnd (dead : Bytes) (split : ℕ) : Type 0 where
+  pub count : ℕ
+  pub splits : split ≡ count * dotSize
   pub within : split ≤ length dead
   pub first-ascends : ascendingDots (dotsOf (take split dead)) ≡ true
   pub second-ascends : ascendingDots (dotsOf (drop split dead)) ≡ true
+
+-- what asking them counts on: the slots of all dots are set too
+pub record TwoTombstones (dead : Bytes) (split : ℕ) (slots : Bytes) : Type 0 where
+  pub stand : EndToEnd dead split
   pub first-slotted : Slotted (dotsOf (take split dead)) slots
   pub second-slotted : Slotted (dotsOf (drop split dead)) slots
 

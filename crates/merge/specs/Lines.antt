@@ -59,7 +59,11 @@ LinePut spot s a b out out′ r =
 
 -- ---- all lines
 
--- what it counts on: stored keys of one set
+-- where the line of a label of so many bytes goes in a run
+abbrev pub spotIn : Run → ℕ → ℕ → Spot
+spotIn run len at = record { n = run .n; len = len; split = run .split; at = at; dry = run .dry }
+
+-- what putting them counts on: stored keys of one set
 pub record Mergeable (n : ℕ) (a b : Bytes) : Type 0 where
   pub short-name : n ≤ nameMost
   pub same-set : SameSet n a b

@@ -2,11 +2,11 @@
 ghost use mathlib.Core.Path.{_≡_};
 ghost use mathlib.Core.Bool.{true, false, cond, _&&_};
 ghost use mathlib.Core.List.{[]};
-ghost use Prim.Native.Nat.{_+_, _-_, _^_, _≤_, _<_};
-ghost use lib.ListN.{length};
+ghost use Prim.Native.Nat.{_+_, _-_, _*_, _^_, _≤_, _<_};
+ghost use lib.ListN.{length, take};
 ghost use Rattle.wire.specs.Loans.{before, after};
 ghost use Rattle.wire.specs.Lists.{consIf};
-ghost use Rattle.wire.specs.Bytes.{startsWith};
+ghost use Rattle.wire.specs.Bytes.{startsWith, putAt};
 ghost use Rattle.dots.specs.Names.{nameMost, labelMost};
 ghost use Rattle.dots.specs.Dots.{ascendingDots};
 ghost use Rattle.dots.specs.Wire.{dotsOf, dotsBytes, dotSize};
@@ -17,10 +17,10 @@ ghost use Rattle.listing.specs.Listing.{isLive};
 ghost use Rattle.store.specs.Cut.{keysOf};
 ghost use Rattle.store.specs.Place.{lengthWhile};
 ghost use Rattle.merge.specs.Step.{Handed};
-ghost use Rattle.merge.specs.Sides.{SameSet, SideOk, bothSides};
+ghost use Rattle.merge.specs.Sides.{SameSet};
 ghost use Rattle.merge.specs.Labels.{LabelStart, ComesNext};
-ghost use Rattle.merge.specs.Kept.{firstDot, nextOf, keptDot, sidesOf, keepsNext, TwoTombstones, putUnless};
-ghost use Rattle.merge.specs.Lines.{CanPut, LabelWithin, labelIn, DotsPut, LinePut, Mergeable, CanMerge, Merges, PutsAll};
+ghost use Rattle.merge.specs.Kept.{firstDot, nextOf, keptDot, sidesOf, keepsNext, EndToEnd, TwoTombstones, putUnless};
+ghost use Rattle.merge.specs.Lines.{CanPut, LabelWithin, labelIn, DotsPut, LinePut, Mergeable, CanMerge, Merges, PutsAll, spotIn};
 
 // ---- the step
 
@@ -299,6 +299,19 @@ struct Run {
     dry: bool,
 }
 
+// Where the line of a label of so many bytes goes in a run.
+fn spot_in(run: Run, len: usize, at: usize) -> Spot
+    ensures { λ r. ⌜ r ≡ spotIn run len at ⌝ }
+{
+    Spot {
+        n: run.n,
+        len,
+        split: run.split,
+        at,
+        dry: run.dry,
+    }
+}
+
 // Puts the lines of two stores at the front of out, which has room for them; a dry run only counts their bytes and labels.
 fn merge_lines<'a>(
     run: Run,
@@ -314,17 +327,13 @@ fn merge_lines<'a>(
     requires { ⌜ CanMerge run (sidesOf (now dead) (run .split) (now here) (now there)) (now a) (now b) (length (now out)) ⌝ }
     ensures { λ r. ⌜ Merges run (sidesOf (before dead) (run .split) (before here) (before there)) (before a) (before b) (before out) (after out) r ⌝ }
 {
-    let n = run.n;
-    let split = run.split;
-    let dry = run.dry;
     let mut bytes = 0;
     let mut labels = 0;
     let mut i = 0;
     let mut j = 0;
     loop {
-        let next = next_label(n, &a[i..], &b[j..]);
-        let len = next.len;
-        if len == 0 {
+        let next = next_label(run.n, &a[i..], &b[j..]);
+        if next.len == 0 {
             return listing::LinesPut {
                 bytes,
                 labels,
@@ -333,13 +342,7 @@ fn merge_lines<'a>(
         }
         let to = i + next.first;
         let end = j + next.second;
-        let spot = Spot {
-            n,
-            len,
-            split,
-            at: bytes,
-            dry,
-        };
+        let spot = spot_in(run, next.len, bytes);
         let size = put_line(spot, &a[i..to], &b[j..end], dead, slots, here, there, out);
         labels = add_if(0 < size, 1, labels);
         bytes += size;
@@ -381,40 +384,38 @@ fn put_all<'a>(
     merge_lines(run, a, b, dead, slots, here, there, out)
 }
 
-// What a side has beside its keys: a tombstone of so many dots, and a clock.
-pub struct Side {
-    pub tombstone: [u8; dots::TOMBSTONE_SIZE],
-    pub count: usize,
-    pub words: clock::Words,
+// Bytes of two tombstones.
+pub const DEAD_SIZE: usize = 2 * dots::TOMBSTONE_SIZE;
+
+// Puts the first count dots of a tombstone at a place. Returns the place after them.
+pub fn put_tombstone(dead: &mut [u8], at: usize, tombstone: &[u8], count: usize) -> usize
+    requires { ⌜ (count * dotSize ≤ length (now tombstone)) × (at + count * dotSize ≤ length (now dead)) ⌝ }
+    ensures { λ r. ⌜ (r ≡ at + count * dotSize) × (after dead ≡ putAt (before dead) at (take (count * dotSize) (before tombstone))) ⌝ }
+{
+    let size = count * dots::DOT_SIZE;
+    moves::put(dead, at, &tombstone[..size])
 }
 
-// Puts the merged listing of two sides at the front of out, or nothing where it does not fit.
+// Puts the merged listing of two sides at the front of out, or nothing where it does not fit. Their tombstones stand end to end, the first of `split` bytes.
 pub fn put_merged<'a>(
     n: usize,
+    split: usize,
     a: &'a [u8],
-    first: Side,
     b: &'a [u8],
-    second: Side,
+    dead: &[u8],
+    here: &clock::Words,
+    there: &clock::Words,
     out: &mut [u8],
 ) -> listing::LinesPut
-    requires { ⌜ Mergeable n (now a) (now b) × SideOk first × SideOk second ⌝ }
-    ensures { λ r. ⌜ PutsAll n (bothSides first second) (before a) (before b) (before out) (after out) r ⌝ }
+    requires { ⌜ Mergeable n (now a) (now b) × EndToEnd (now dead) split ⌝ }
+    ensures { λ r. ⌜ PutsAll n (sidesOf (before dead) split (before here) (before there)) (before a) (before b) (before out) (after out) r ⌝ }
 {
-    let removed = first.tombstone;
-    let gone = second.tombstone;
-    let split = first.count * dots::DOT_SIZE;
-    let size = second.count * dots::DOT_SIZE;
-    let mut dead = [0u8; 2 * dots::TOMBSTONE_SIZE];
-    let middle = moves::put(&mut dead, 0, &removed[..split]);
-    let end = moves::put(&mut dead, middle, &gone[..size]);
     let mut slots = [0u8; slots::SLOTS];
-    slots::fill_slots(&dead[..end], &mut slots);
-    let here = first.words;
-    let there = second.words;
+    slots::fill_slots(dead, &mut slots);
     let run = Run {
         n,
         split,
         dry: false,
     };
-    put_all(run, a, b, &dead[..end], &slots, &here, &there, out)
+    put_all(run, a, b, dead, &slots, here, there, out)
 }

@@ -1,13 +1,13 @@
 -- What the calls that only read count on, and what a listing gives, over the parts of a state. n is the length of the set's name.
 use Prim.Native.Nat.{ℕ, _*_, _≤_}
 use denote.Ref.{RefT}
-use mathlib.Core.Bool.{Bool, true, false, not, cond, _&&_, _||_}
+use mathlib.Core.Bool.{Bool, true, false, not, cond, _&&_}
 use mathlib.Core.List.{List, [], _∷_, _++_}
 use mathlib.Core.Path.{_≡_}
-use lib.Dec.{eqb, ltb}
+use lib.Dec.{eqb, ltb, isEq}
 use lib.ListN.{length, take}
 use Rattle.wire.specs.Lists.{any, member}
-use Rattle.wire.specs.Bytes.{Bytes, IsPart}
+use Rattle.wire.specs.Bytes.{Bytes, compareBytes, IsPart}
 use Rattle.dots.specs.declared.Answer.{Answer}
 use Rattle.dots.specs.declared.Answer.the-variants.{Done, Damaged, OtherSet, OutputShort}
 use Rattle.dots.specs.Answer.{Refusals}
@@ -22,14 +22,11 @@ use Rattle.store.specs.Valid.{storeMost, keysFit}
 use Rattle.store.specs.Place.{stretchStart, stretchEnd, Passed, LabelPassed}
 use Rattle.listing.specs.declared.LinesPut.{LinesPut}
 use Rattle.listing.specs.Listing.{keyLines, StoredKeys}
-use Rattle.merge.specs.declared.Side.{Side}
-use Rattle.calls.specs.declared.State.{State}
 use Rattle.calls.specs.declared.Listed.{Listed}
 use Rattle.calls.specs.declared.Paged.{Paged}
+use Rattle.calls.specs.declared.SetName.{SetName}
 use Rattle.calls.specs.declared.Tombstone.{Tombstone}
-use Rattle.calls.specs.State.{nameOf}
-use Rattle.calls.specs.Damage.{damaged}
-use Rattle.calls.specs.Refusals.{badStart, otherSet}
+use Rattle.calls.specs.Refusals.{badStart}
 use Rattle.steps.specs.Tests.{Tombstoned}
 
 -- ---- lines put out
@@ -76,13 +73,9 @@ IsStart store used name len start r = (r ≡ pageStart (take len name) start (ta
 
 -- ---- merged read
 
--- its refusals before the walk: "Either state damaged: 1, then different sets: 7"
-abbrev pub sidesRefusals : State → Bytes → State → Bytes → Refusals
-sidesRefusals st store st′ store′ = (damaged st store || damaged st′ store′, Damaged) ∷ (otherSet st store (nameOf st′), OtherSet) ∷ []
-
--- tombstone and clock of a state
-abbrev pub sideOf : State → Side
-sideOf st = record { tombstone = st .tombstone .bytes; count = st .tombstone .count; words = st .clock .words }
+-- its refusals before the walk: "Either state damaged: 1, then different sets: 7"; by whether one is damaged, and by their set names
+abbrev pub setRefusals : Bool → SetName → SetName → Refusals
+setRefusals damage name given = (damage, Damaged) ∷ (not (isEq (compareBytes (take (given .len) (given .bytes)) (take (name .len) (name .bytes)))), OtherSet) ∷ []
 
 -- ---- lookup
 

@@ -1,6 +1,8 @@
 // The calls that only read: listing, page, merged read and lookup.
 ghost use mathlib.Core.Path.{_≡_};
 ghost use mathlib.Core.Bool.{false};
+ghost use Prim.Native.Nat.{_≤_};
+ghost use lib.ListN.{length};
 ghost use Rattle.wire.specs.Loans.{before, after};
 ghost use Rattle.dots.specs.Answer.{firstOf, numberOf};
 ghost use Rattle.listing.specs.Listing.{PutsWanted};
@@ -9,7 +11,7 @@ ghost use Rattle.calls.specs.Refusals.{badLabel, badStart};
 ghost use Rattle.calls.specs.Damage.{damaged};
 ghost use Rattle.calls.specs.Calls.{listResult, mergeResult};
 ghost use Rattle.calls.specs.Promise.{Lists, PagesAfter, LooksUp};
-ghost use Rattle.reads.specs.Reads.{Readable, linesIn, putAnswer, listedOf, sidesRefusals, sideOf, Startable, IsStart, pagedOf, Searchable, IsStretch, LiveTestable, anyLive};
+ghost use Rattle.reads.specs.Reads.{Readable, linesIn, putAnswer, listedOf, setRefusals, Startable, IsStart, pagedOf, Searchable, IsStretch, LiveTestable, anyLive};
 
 // ---- lines put out
 
@@ -76,14 +78,7 @@ pub fn list(state: calls::State, store: &[u8], out: &mut [u8]) -> calls::Listed
     let n = state.name.len;
     let used = state.used;
     let count = state.tombstone.count;
-    listed(put_used(
-        n,
-        &store[..used],
-        &state.tombstone.bytes,
-        count,
-        true,
-        out,
-    ))
+    listed(put_used(n, &store[..used], &state.tombstone.bytes, count, true, out))
 }
 
 // ---- page
@@ -161,42 +156,24 @@ pub fn page(state: calls::State, store: &[u8], start: &[u8], out: &mut [u8]) -> 
 
 // ---- merged read
 
-// The first of the refusals 1 and 7 that holds.
-fn merge_refusal<'a>(
-    first: calls::State,
-    a: &'a [u8],
-    second: calls::State,
-    b: &'a [u8],
-) -> dots::Answer
-    ensures { λ r. ⌜ r ≡ firstOf (sidesRefusals first (before a) second (before b)) ⌝ }
+// The first of the refusals 1 and 7 that holds, by whether a state is damaged and by the set names of both.
+fn merge_refusal(damage: bool, name: calls::SetName, given: calls::SetName) -> dots::Answer
+    requires { ⌜ (damage ≡ false → (name .len ≤ length (name .bytes)) × (given .len ≤ length (given .bytes))) ⌝ }
+    ensures { λ r. ⌜ r ≡ firstOf (setRefusals damage name given) ⌝ }
 {
-    let damage = is_damaged(first, a);
-    if damage | is_damaged(second, b) {
+    if damage {
         return dots::Answer::Damaged;
     }
-    let name = first.name.bytes;
-    let given = second.name.bytes;
-    let size = second.name.len;
-    if steps::other_set(&name, first.name.len, &given[..size]) {
+    let bytes = name.bytes;
+    let text = given.bytes;
+    let size = given.len;
+    if steps::other_set(&bytes, name.len, &text[..size]) {
         return dots::Answer::OtherSet;
     }
     dots::Answer::Done
 }
 
-// Tombstone and clock of a state.
-fn side_of(state: calls::State) -> merge::Side
-    ensures { λ r. ⌜ r ≡ sideOf state ⌝ }
-{
-    let tombstone = state.tombstone.bytes;
-    let words = state.clock.words;
-    merge::Side {
-        tombstone: tombstone,
-        count: state.tombstone.count,
-        words: words,
-    }
-}
-
-// Lists the labels of two controllers as one.
+// Lists the labels of two controllers as one. Of both states only the dots of the tombstones are copied, end to end.
 pub fn merge<'a>(
     first: calls::State,
     a: &'a [u8],
@@ -206,7 +183,11 @@ pub fn merge<'a>(
 ) -> calls::Listed
     ensures { λ r. ⌜ Lists (mergeResult first (before a) second (before b) (before out)) (after out) r ⌝ }
 {
-    let refusal = merge_refusal(first, a, second, b);
+    let head = judging::head_of(first);
+    let other = judging::head_of(second);
+    let first_damaged = judging::damaged(head, &first.clock.words, &first.tombstone.bytes, a);
+    let second_damaged = judging::damaged(other, &second.clock.words, &second.tombstone.bytes, b);
+    let refusal = merge_refusal(first_damaged | second_damaged, first.name, second.name);
     if dots::number_of(refusal) != 0 {
         return calls::Listed {
             answer: refusal,
@@ -214,15 +195,21 @@ pub fn merge<'a>(
             labels: 0,
         };
     }
-    let n = first.name.len;
+    let count = first.tombstone.count;
+    let more = second.tombstone.count;
+    let mut dead = [0u8; merge::DEAD_SIZE];
+    let split = merge::put_tombstone(&mut dead, 0, &first.tombstone.bytes, count);
+    let end = merge::put_tombstone(&mut dead, split, &second.tombstone.bytes, more);
     let used = first.used;
     let size = second.used;
     listed(merge::put_merged(
-        n,
+        first.name.len,
+        split,
         &a[..used],
-        side_of(first),
         &b[..size],
-        side_of(second),
+        &dead[..end],
+        &first.clock.words,
+        &second.clock.words,
         out,
     ))
 }

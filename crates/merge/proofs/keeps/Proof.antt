@@ -23,7 +23,7 @@ unfolding keepsNext
 by-both dead split here there next p q e f = rw (e, f, rest-part)
 
 slice-aggregate-is-listed : tie.Need-slice-aggregate-is-listed
-slice-aggregate-is-listed c = sym (length-take-le _ _ (c .before .before .before .pre .within))
+slice-aggregate-is-listed c = sym (length-take-le _ _ (c .before .before .before .pre .stand .within))
 
 is-listed-requires : tie.Need-is-listed-requires
 is-listed-requires c κs = search needs
@@ -38,7 +38,7 @@ part-is-listed-end : tie.Need-part-is-listed-end
 part-is-listed-end c = search needs
 
 is-listed-requires-2 : tie.Need-is-listed-requires-2
-is-listed-requires-2 c κs = let s = c .before .before .before .before .before in rw rest-part (s .pre .second-ascends, s .pre .second-slotted)
+is-listed-requires-2 c κs = let s = c .before .before .before .before .before in rw rest-part (s .pre .stand .second-ascends, s .pre .second-slotted)
 
 kept-dot-requires : tie.Need-kept-dot-requires
 kept-dot-requires c κs = search needs
