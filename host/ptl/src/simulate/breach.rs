@@ -7,7 +7,7 @@ use super::floor::Floor;
 use super::goods::{label, Bin, BINS, BOXES, PARTS};
 use super::hold::{pair_text, pairs};
 use super::premise::Pair;
-use super::swap::mortal;
+use super::swap::may_die;
 use super::work::{Job, Task};
 use std::collections::BTreeSet;
 
@@ -68,7 +68,7 @@ impl Floor<'_> {
 
     /// The box that has made the most own adds since its image comes back as it was then.
     fn forget(&mut self) {
-        let forgot = mortal().filter_map(|at| self.forgot_of(at));
+        let forgot = may_die().filter_map(|at| self.forgot_of(at));
         let Some(forgot) = forgot.max_by_key(|forgot| forgot.own_adds) else {
             return;
         };

@@ -23,7 +23,7 @@ pub struct Swap {
 }
 
 /// The boxes that may fail; that of the gas springs and that of the goods-in desk do not.
-pub fn mortal() -> impl Iterator<Item = usize> {
+pub fn may_die() -> impl Iterator<Item = usize> {
     (0..BOXES).filter(|at| ![SPRING_BOX, GOODS_IN].contains(at))
 }
 
@@ -46,7 +46,7 @@ impl Floor<'_> {
 
     /// The box dies that has written the most messages since its image.
     pub fn swap(&mut self) {
-        let swaps = mortal().filter_map(|at| self.swap_of(at));
+        let swaps = may_die().filter_map(|at| self.swap_of(at));
         let Some(swap) = swaps.max_by_key(|swap| swap.written) else {
             return;
         };
