@@ -25,6 +25,7 @@ use Rattle.replica.specs.Machine.{messagesOf, apply, compacted, listing, found,
 use Rattle.replica.specs.Page.{fitting, firstFits}
 use Rattle.replica.specs.Read.{mergedEntries}
 use Rattle.replica.specs.Rule.{addsOf, noteActor, noteOwnAdd, historyFrom, ruleListing}
+use Rattle.replica.specs.Network.{isOwnAdd, pairsFrom}
 use Rattle.calls.specs.State.{view}
 use Rattle.calls.specs.Damage.{stateNameOk, tombstoneOk, damaged}
 use Rattle.calls.specs.Effect.{stateOf, storeOf}
@@ -42,7 +43,7 @@ use Rattle.calls.specs.Premises.{PremisesMet, TwoLabels}
 
 -- all that the cases compute with: whoever unfolds this unfolds each of these
 computing : Unit {0}
-unfolding keep any all compareLists member ascendsFrom ascends insert insertAll bigEndian fromBigEndian zeroAt textOk labelPrints dotOk ascendingDots dotBytes dotsBytes dotsAt dotsOf prepend linesOf testBit seen wellFormed trailingOnes settled marked join total known climb unbroken windowEvents tooFar rowAt withRow sees allTo rowsOk clockOk joinDot joinEach joinAll countersOf near namesOk keyCounterOk afterType keyBytes fieldsAs isKey entryKey keyEntry messageBytes layoutOf markOk versionOk shapeOk messageAt nameOf messageOf endToEnd storeBytes keyLength keysAfter keyLabel keyDot entriesIn usedOk storeOk listingBytes fitting firstFits apply compacted listing found effect view stateNameOk tombstoneOk damaged stateOf storeOf setUp ownAddResult ownRemoveResult takeInResult listResult pageResult moreFollow lookupResult compactResult resultOf run answersOf lastOutput shown writeAnswer readAnswer addsOf noteActor noteOwnAdd historyFrom ruleListing messagesOf callOf events messageBytesOf traffic mathlib.Core.List.flatMap mergedEntries mergeResult bitStep bitSteps byteStep register crcOf unused rowsBytes imageRest imageUnder imageVersionOk imageLayoutOf imageShapeOk crcOk clockIn stateAt freeOf imageResult loadResult
+unfolding keep any all compareLists member ascendsFrom ascends insert insertAll bigEndian fromBigEndian zeroAt textOk labelPrints dotOk ascendingDots dotBytes dotsBytes dotsAt dotsOf prepend linesOf testBit seen wellFormed trailingOnes settled marked join total known climb unbroken windowEvents tooFar rowAt withRow sees allTo rowsOk clockOk joinDot joinEach joinAll countersOf near namesOk keyCounterOk afterType keyBytes fieldsAs isKey entryKey keyEntry messageBytes layoutOf markOk versionOk shapeOk messageAt nameOf messageOf endToEnd storeBytes keyLength keysAfter keyLabel keyDot entriesIn usedOk storeOk listingBytes fitting firstFits apply compacted listing found effect view stateNameOk tombstoneOk damaged stateOf storeOf setUp ownAddResult ownRemoveResult takeInResult listResult pageResult moreFollow lookupResult compactResult resultOf run answersOf lastOutput shown writeAnswer readAnswer addsOf noteActor noteOwnAdd historyFrom ruleListing messagesOf callOf events messageBytesOf traffic mathlib.Core.List.flatMap mergedEntries mergeResult bitStep bitSteps byteStep register crcOf unused rowsBytes imageRest imageUnder imageVersionOk imageLayoutOf imageShapeOk crcOk clockIn stateAt freeOf imageResult loadResult isOwnAdd pairsFrom
 computing = tt
 
 pub starred-cases : StarredCases
@@ -153,6 +154,8 @@ premises-met = record {
   traffic-2 = refl;
   labels-1 = refl;
   labels = refl;
+  unforged = refl;
+  made = refl;
   next-1 = refl;
   next-2 = refl;
   merge = refl;

@@ -18,14 +18,14 @@ use Rattle.replica.specs.Page.{pageAfter, pageMore}
 use Rattle.replica.specs.Machine.{compact, effect, compacted, listing, found, messagesOf as machineMessages}
 use Rattle.replica.specs.Rule.{History, noHistory, noted, historyFrom, pairs, livePairs, ruleListing, OneLabelPerDot}
 use Rattle.replica.specs.Read.{readOf, mergedLines}
-use Rattle.replica.specs.Demand3.{Life, endOf as lifeEnd, accepted, trafficOf as lifeTraffic, Follows as MachineFollows, Agree as MachineAgree}
+use Rattle.replica.specs.Demand3.{Life, endOf as lifeEnd, accepted, trafficOf as lifeTraffic, ListsJust as MachineLists, Follows as MachineFollows, ListAlike as MachineAlike, Agree as MachineAgree}
 use Rattle.replica.proofs.Listings.{fewer, is-listing}
-use Rattle.replica.proofs.RowClock.{controllers-follow, controllers-agree, controllers-merge}
+use Rattle.replica.proofs.RowClock.{controllers-follow, controllers-agree, controllers-merge, controllers-exchange}
 use Rattle.calls.specs.State.{clockModel, nameOf, view}
 use Rattle.calls.specs.Effect.{tombstoneOf, stateOf}
 use Rattle.calls.specs.Calls.{Result, Looked, listRefusals, listResult, moreFollow, lookupResult, mergeLines, mergeRefusals, mergeResult}
 use Rattle.calls.specs.Sequence.{Input, addInput, removeInput, messageInput, readInput, listInput, pageInput, lookupInput, compactInput, handOffInput, Held, started, resultOf, accepts, output, heldAfter, step, callOf, events, messageBytesOf, traffic, mergeOf}
-use Rattle.calls.specs.Demand3.{Accepted, Follows, Agree, Controlled, messagesOf, trafficOf, endOf, Demand3, MergeAccepted, Merges}
+use Rattle.calls.specs.Demand3.{Accepted, ListsJust, Follows, ListAlike, Agree, Controlled, messagesOf, trafficOf, endOf, Demand3, MergeAccepted, Merges}
 use Rattle.calls.proofs.Reading.{used-after, viewOf}
 use Rattle.calls.proofs.Decided.{looked-done, Sized}
 use Rattle.calls.proofs.Accepted.{compact-accepted}
@@ -94,21 +94,27 @@ merged-is h sized k sized′ ls e past past′ out acc =
 
 -- ---- through the bytes
 
-follows-held : (name : Name) (ms : List Message) (x : SizedHeld) → nameOf (x .0 .state) ≡ name → MachineFollows clockModel controller x ms → Follows name ms (x .0)
+lists-held : (name : Name) (ls : List Line) (es : List Entry) (x : SizedHeld) → nameOf (x .0 .state) ≡ name → MachineLists clockModel controller ls es x → ListsJust name ls es (x .0)
 unfolding view callOf
-follows-held name ms x n f = record {
-  rule-means = f .rule-means;
-  listing-is = λ single past out acc. listed-is (x .0) (x .1) past out acc .0 ∙ ap listingBytes (f .listing-is single);
-  labels-are = λ single past out acc. listed-is (x .0) (x .1) past out acc .1 ∙ ap length (f .listing-is single);
-  page-is = λ single start past out acc. paged-is (x .0) (x .1) (ruleListing ms) (f .listing-is single) start past out acc .0;
-  page-labels-are = λ single start past out acc. paged-is (x .0) (x .1) (ruleListing ms) (f .listing-is single) start past out acc .1;
-  page-more-is = λ single start past out acc. paged-is (x .0) (x .1) (ruleListing ms) (f .listing-is single) start past out acc .2;
-  lookup-is = λ single label past acc. subst (λ b. T b ↔ (label ∈ lineLabels (ruleListing ms))) (sym (looked-is (x .0) (x .1) label past acc)) (f .lookup-is single label);
-  clock-is = f .clock-is;
-  compaction-is = λ single past acc.
+lists-held name ls es x n f = record {
+  listing-is = λ past out acc. listed-is (x .0) (x .1) past out acc .0 ∙ ap listingBytes (f .listing-is);
+  labels-are = λ past out acc. listed-is (x .0) (x .1) past out acc .1 ∙ ap length (f .listing-is);
+  page-is = λ start past out acc. paged-is (x .0) (x .1) ls (f .listing-is) start past out acc .0;
+  page-labels-are = λ start past out acc. paged-is (x .0) (x .1) ls (f .listing-is) start past out acc .1;
+  page-more-is = λ start past out acc. paged-is (x .0) (x .1) ls (f .listing-is) start past out acc .2;
+  lookup-is = λ label past acc. subst (λ b. T b ↔ (label ∈ lineLabels ls)) (sym (looked-is (x .0) (x .1) label past acc)) (f .lookup-is label);
+  compaction-is = λ past acc.
       compacted-used (x .0) (x .1) past acc
       ∙ ap (λ m. storeBytes m (viewOf (step (x .0) (compactInput past)) .keys)) n
-      ∙ ap (storeBytes name) (f .compaction-is single (compactInput past) (record { call-is = refl; done = acc }));
+      ∙ ap (storeBytes name) (f .compaction-is (compactInput past) (record { call-is = refl; done = acc }));
+}
+
+follows-held : (name : Name) (ms : List Message) (x : SizedHeld) → nameOf (x .0 .state) ≡ name → MachineFollows clockModel controller x ms → Follows name ms (x .0)
+unfolding view
+follows-held name ms x n f = record {
+  rule-means = f .rule-means;
+  lists = λ single. lists-held name (ruleListing ms) (livePairs ms) x n (f .lists single);
+  clock-is = f .clock-is;
   compaction-empties = compacted-tombstone (x .0);
 }
 
@@ -118,29 +124,37 @@ unfolding storeBytes
 keys-of n n′ [] h = refl
 keys-of n n′ (e ∷ es) h = rw (h e (List·Memᴰ·head refl))
 
+alike-held : (x y : SizedHeld)
+    → ((past : Bytes) → Accepted (x .0) (compactInput past) → (e : Entry) → e ∈ viewOf (step (x .0) (compactInput past)) .keys → nameOf (x .0 .state) ≡ nameOf (y .0 .state))
+    → MachineAlike clockModel controller x y → ListAlike (x .0) (y .0)
+unfolding callOf
+alike-held x y n a = record {
+  same-listing = λ past out past′ out′ acc acc′.
+      let p = listed-is (x .0) (x .1) past out acc in
+      let q = listed-is (y .0) (y .1) past′ out′ acc′ in
+      (p .0 ∙ ap listingBytes (a .same-listing) ∙ sym (q .0), p .1 ∙ ap length (a .same-listing) ∙ sym (q .1));
+  same-store = λ past past′ acc acc′. (sizes past past′ (bytes past past′ acc acc′), bytes past past′ acc acc′);
+}
+  where
+    bytes : (past past′ : Bytes) → Accepted (x .0) (compactInput past) → Accepted (y .0) (compactInput past′) → step (x .0) (compactInput past) .used ≡ step (y .0) (compactInput past′) .used
+    bytes past past′ acc acc′ =
+        compacted-used (x .0) (x .1) past acc
+        ∙ keys-of (nameOf (x .0 .state)) (nameOf (y .0 .state)) (viewOf (step (x .0) (compactInput past)) .keys) (n past acc)
+        ∙ ap (storeBytes (nameOf (y .0 .state))) (a .same-keys (compactInput past) (compactInput past′) (record { call-is = refl; done = acc }) (record { call-is = refl; done = acc′ }))
+        ∙ sym (compacted-used (y .0) (y .1) past′ acc′)
+
+    sizes : (past past′ : Bytes) → step (x .0) (compactInput past) .used ≡ step (y .0) (compactInput past′) .used → step (x .0) (compactInput past) .state .used ≡ step (y .0) (compactInput past′) .state .used
+    sizes past past′ e = sym (stepped x (compactInput past) .1 .used-size) ∙ ap length e ∙ stepped y (compactInput past′) .1 .used-size
+
 agree-held : (ms : List Message) (x y : SizedHeld)
     → (OneLabelPerDot (pairs ms) → (past : Bytes) → Accepted (x .0) (compactInput past) → (e : Entry) → e ∈ viewOf (step (x .0) (compactInput past)) .keys → nameOf (x .0 .state) ≡ nameOf (y .0 .state))
     → MachineAgree clockModel controller ms x y → Agree ms (x .0) (y .0)
 unfolding view callOf
 agree-held ms x y n a = record {
-  same-listing = λ single past out past′ out′ acc acc′.
-      let p = listed-is (x .0) (x .1) past out acc in
-      let q = listed-is (y .0) (y .1) past′ out′ acc′ in
-      (p .0 ∙ ap listingBytes (a .same-listing single) ∙ sym (q .0), p .1 ∙ ap length (a .same-listing single) ∙ sym (q .1));
+  lists = λ single. alike-held x y (n single) (a .lists single);
   same-clock = λ past past′ acc acc′. ap (λ w. record { words = w }) (a .same-clock (compactInput past) (compactInput past′) (record { call-is = refl; done = acc }) (record { call-is = refl; done = acc′ }));
   same-tombstone = λ past past′ acc acc′. compacted-tombstone (x .0) past acc ∙ sym (compacted-tombstone (y .0) past′ acc′);
-  same-store = λ single past past′ acc acc′. (sizes past past′ (bytes single past past′ acc acc′), bytes single past past′ acc acc′);
 }
-  where
-    bytes : OneLabelPerDot (pairs ms) → (past past′ : Bytes) → Accepted (x .0) (compactInput past) → Accepted (y .0) (compactInput past′) → step (x .0) (compactInput past) .used ≡ step (y .0) (compactInput past′) .used
-    bytes single past past′ acc acc′ =
-        compacted-used (x .0) (x .1) past acc
-        ∙ keys-of (nameOf (x .0 .state)) (nameOf (y .0 .state)) (viewOf (step (x .0) (compactInput past)) .keys) (n single past acc)
-        ∙ ap (storeBytes (nameOf (y .0 .state))) (a .same-keys single (compactInput past) (compactInput past′) (record { call-is = refl; done = acc }) (record { call-is = refl; done = acc′ }))
-        ∙ sym (compacted-used (y .0) (y .1) past′ acc′)
-
-    sizes : (past past′ : Bytes) → step (x .0) (compactInput past) .used ≡ step (y .0) (compactInput past′) .used → step (x .0) (compactInput past) .state .used ≡ step (y .0) (compactInput past′) .state .used
-    sizes past past′ e = sym (stepped x (compactInput past) .1 .used-size) ∙ ap length e ∙ stepped y (compactInput past′) .1 .used-size
 
 merges-held : (ms : List Message) (x y : SizedHeld) → mergedLines clockModel (readOf clockModel (viewOf (x .0))) (readOf clockModel (viewOf (y .0))) ≡ ruleListing ms → Merges ms (x .0) (y .0)
 merges-held ms x y lines = record {
@@ -186,11 +200,12 @@ one-set c d same e k = by (trafficOf c) refl
         let here : s ∈ trafficOf c = subst (λ ts. s ∈ ts) (sym some) (List·Memᴰ·head refl) in
         sym (start-name c) ∙ sym (traffic-named (startOf c) (c .calls) s here) ∙ traffic-named (startOf d) (d .calls) s (same s .0 here) ∙ start-name d
 
+-- more bytes, more messages
+pub decoded : (xs ys : List Bytes) → ((s : Bytes) → s ∈ xs → s ∈ ys) → (m : Message) → m ∈ map messageOf xs → m ∈ map messageOf ys
+decoded xs ys to m k = let r = Memᴰ·of-map messageOf xs k in subst (λ z. z ∈ map messageOf ys) (r .2) (Memᴰ·map messageOf (to (r .0) (r .1)))
+
 same-decoded : (xs ys : List Bytes) → SameMembers xs ys → SameMembers (map messageOf xs) (map messageOf ys)
-same-decoded xs ys same m = (over xs ys (λ s. same s .0), over ys xs (λ s. same s .1))
-  where
-    over : (us vs : List Bytes) → ((s : Bytes) → s ∈ us → s ∈ vs) → m ∈ map messageOf us → m ∈ map messageOf vs
-    over us vs to k = let r = Memᴰ·of-map messageOf us k in subst (λ z. z ∈ map messageOf vs) (r .2) (Memᴰ·map messageOf (to (r .0) (r .1)))
+same-decoded xs ys same m = (decoded xs ys (λ s. same s .0) m, decoded ys xs (λ s. same s .1) m)
 
 -- ---- the claims
 
@@ -211,6 +226,12 @@ module _ (c : Controlled) where
 
   accepted-is : accepted clockModel controller lifeOf ≡ messagesOf c
   accepted-is = ap (λ es. historyFrom (noHistory (actorOf (c .actor))) es .messages) (events-same (startOf c) (c .calls))
+
+  -- the rule's messages are those of the traffic
+  pub messages-are : SameMembers (messagesOf c) (map messageOf (trafficOf c))
+  messages-are =
+      subst (λ ms. SameMembers ms (map messageOf (trafficOf c))) accepted-is
+      (subst (SameMembers (accepted clockModel controller lifeOf)) (traffic-same (startOf c) (c .calls)) (controllers-exchange controller lifeOf))
 
   machine-follows : MachineFollows clockModel controller reached (messagesOf c)
   unfolding reached
@@ -236,7 +257,7 @@ module _ (c d : Controlled) (same : SameMembers (trafficOf c) (trafficOf d)) whe
   unfolding callOf
   same-name single past acc e k =
       let one : OneLabelPerDot (pairs (messagesOf c)) = fewer (λ m. Memᴰ·append-left (messagesOf d)) single in
-      let left = machine-follows c .compaction-is one (compactInput past) (record { call-is = refl; done = acc }) in
+      let left = machine-follows c .lists one .compaction-is (compactInput past) (record { call-is = refl; done = acc }) in
       reached-name c ∙ one-set c d same e (subst (λ es. e ∈ es) left k) ∙ sym (reached-name d)
 
   demand3-agree : Agree both (endOf c) (endOf d)

@@ -1,8 +1,8 @@
--- Two controllers that meet demand 3's premises, so that it says of them what it says. Assumes nothing.
-use mathlib.Core.Path.{_≡_, sym, _∙_}
+-- Two controllers that meet demand 3's premises and are a network, so that it says of them what it says. Assumes nothing.
+use mathlib.Core.Path.{_≡_, refl, sym, _∙_}
 use mathlib.Core.Bool.{true}
 use mathlib.Core.Logic.{inl, inr, ⊎-elim}
-use mathlib.Core.List.{List, [], _∷_, _++_}
+use mathlib.Core.List.{List, [], _∷_, _++_, flatMap, List·Memᴰ·head, List·Memᴰ·tail, Memᴰ·map}
 use lib.Dec.{isEq}
 use Rattle.wire.specs.Lists.{_∈_, SameMembers, all}
 use Rattle.wire.specs.Bytes.{Bytes, compareBytes}
@@ -12,12 +12,16 @@ use Rattle.wire.proofs.Orders.{bytesLawful}
 use Rattle.dots.specs.Names.{Label}
 use Rattle.dots.specs.Entries.{Entry, entry}
 use Rattle.replica.specs.Rule.{pairs, OneLabelPerDot}
+use Rattle.replica.specs.Network.{madeIn, Network}
+use Rattle.replica.proofs.NetworkCases.{unforged-by, of-two}
 use Rattle.keys.specs.Cases.{R1, B7}
 use Rattle.messages.specs.Cases.{a1}
 use Rattle.calls.specs.Cases.{a2}
 use Rattle.calls.specs.Demand3.{Follows, Agree, Merges, Controlled, messagesOf, trafficOf, endOf}
-use Rattle.calls.specs.Premises.{calls1, calls2}
+use Rattle.calls.specs.Network.{accountOf, Settled}
+use Rattle.calls.specs.Premises.{calls1, calls2, accounts}
 use Rattle.calls.proofs.Demand3.{demand-3}
+use Rattle.calls.proofs.Networks.{networks-hold}
 use Rattle.calls.proofs.Cases.{premises-met}
 
 abbrev pub first : Controlled
@@ -55,3 +59,13 @@ both-agree = demand-3 .agree first second same-traffic
 
 pub both-merge : Merges (messagesOf first ++ messagesOf second) (endOf first) (endOf second)
 both-merge = demand-3 .merge first second both-labels
+
+pub both-network : Network accounts
+both-network = record { unforged = unforged-by accounts (premises-met .unforged); made-once = one-label B7 (madeIn accounts) (premises-met .made) }
+
+-- all messages have reached both
+pub both-settled : Settled (flatMap messagesOf (first ∷ second ∷ [])) first second
+both-settled =
+    networks-hold accounts both-network .settled (first ∷ second ∷ []) (λ c. Memᴰ·map accountOf)
+    (of-two (λ c d. (s : Bytes) → s ∈ trafficOf c → s ∈ trafficOf d) (λ s k. k) (λ s. same-traffic s .0) (λ s. same-traffic s .1) (λ s k. k)) first second
+    (List·Memᴰ·head refl) (List·Memᴰ·tail (List·Memᴰ·head refl))

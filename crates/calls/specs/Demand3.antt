@@ -11,7 +11,7 @@ use Rattle.dots.specs.Answer.{numberOf}
 use Rattle.dots.specs.declared.Answer.the-variants.{Done}
 use Rattle.dots.specs.declared.Dot.{Dot}
 use Rattle.dots.specs.Names.{Name}
-use Rattle.dots.specs.Entries.{lineLabels}
+use Rattle.dots.specs.Entries.{Entry, Line, lineLabels}
 use Rattle.dots.specs.Message.{Message}
 use Rattle.clock.specs.Clock.{sees}
 use Rattle.store.specs.Cut.{storeBytes}
@@ -28,48 +28,55 @@ Accepted h i = answerOf h i ≡ 0
 abbrev pub MergeAccepted : Held → Held → Bytes → Bytes → Bytes → Type 0
 MergeAccepted h k past past′ out = numberOf (mergeOf h k past past′ out .answer) ≡ 0
 
--- What is held is as the rule says of the accepted messages, in a set of this name. The proviso that no two adds give one dot to different labels
--- stands in each field that needs it.
+-- it lists just these lines, and a compaction leaves just these keys, in a set of this name
+pub record ListsJust (name : Name) (ls : List Line) (es : List Entry) (h : Held) : Type 0 where
+  -- "and bytes given under Listing"
+  pub listing-is : (past out : Bytes) → Accepted h (listInput past out) → output (resultOf h (listInput past out)) ≡ listingBytes ls
+  -- "the number of labels is the number of these"
+  pub labels-are : (past out : Bytes) → Accepted h (listInput past out) → resultOf h (listInput past out) .labels ≡ length ls
+  -- "each page speaks of the state it finds": the lines after the starting label, as many as fit, how many, and whether more follow
+  pub page-is : (start past out : Bytes) → Accepted h (pageInput start past out) → output (resultOf h (pageInput start past out)) ≡ listingBytes (pageAfter lineSize ls start (length out))
+  pub page-labels-are : (start past out : Bytes) → Accepted h (pageInput start past out) → resultOf h (pageInput start past out) .labels ≡ length (pageAfter lineSize ls start (length out))
+  pub page-more-is : (start past out : Bytes) → Accepted h (pageInput start past out) → moreFollow (h .state) (h .used ++ past) start out ≡ pageMore lineSize ls start (length out)
+  -- lookup says yes "exactly if the listing has the label"
+  pub lookup-is : (label past : Bytes) → Accepted h (lookupInput label past) → T (lookupResult (h .state) (h .used ++ past) label .listed) ↔ (label ∈ lineLabels ls)
+  -- "and a compaction accepted next leaves just the keys of the pairs not removed"
+  pub compaction-is : (past : Bytes) → Accepted h (compactInput past) → step h (compactInput past) .used ≡ storeBytes name es
+
+abbrev pub ListsTheRule : Name → List Message → Held → Type 0
+ListsTheRule name ms = ListsJust name (ruleListing ms) (livePairs ms)
+
+-- what is held is as the rule says of the accepted messages, in a set of this name
 pub record Follows (name : Name) (ms : List Message) (h : Held) : Type 0 where
   -- "The listing is then every label with a pair whose dot is not in the second set, with just those dots, in the order ... given"
   pub rule-means : IsListing ms (ruleListing ms)
-  -- "and bytes given under Listing"
-  pub listing-is : OneLabelPerDot (pairs ms) → (past out : Bytes) → Accepted h (listInput past out) → output (resultOf h (listInput past out)) ≡ listingBytes (ruleListing ms)
-  -- "the number of labels is the number of these"
-  pub labels-are : OneLabelPerDot (pairs ms) → (past out : Bytes) → Accepted h (listInput past out) → resultOf h (listInput past out) .labels ≡ length (ruleListing ms)
-  -- "each page speaks of the state it finds": the rule's lines after the starting label, as many as fit, how many, and whether more follow
-  pub page-is : OneLabelPerDot (pairs ms) → (start past out : Bytes) → Accepted h (pageInput start past out)
-      → output (resultOf h (pageInput start past out)) ≡ listingBytes (pageAfter lineSize (ruleListing ms) start (length out))
-  pub page-labels-are : OneLabelPerDot (pairs ms) → (start past out : Bytes) → Accepted h (pageInput start past out)
-      → resultOf h (pageInput start past out) .labels ≡ length (pageAfter lineSize (ruleListing ms) start (length out))
-  pub page-more-is : OneLabelPerDot (pairs ms) → (start past out : Bytes) → Accepted h (pageInput start past out)
-      → moreFollow (h .state) (h .used ++ past) start out ≡ pageMore lineSize (ruleListing ms) start (length out)
-  -- lookup says yes "exactly if the listing has the label"
-  pub lookup-is : OneLabelPerDot (pairs ms) → (label past : Bytes) → Accepted h (lookupInput label past)
-      → T (lookupResult (h .state) (h .used ++ past) label .listed) ↔ (label ∈ lineLabels (ruleListing ms))
+  -- the proviso that no two adds give one dot to different labels is needed for this alone; over a network it holds (`Network`)
+  pub lists : OneLabelPerDot (pairs ms) → ListsTheRule name ms h
   -- "The clock then sees just the dots in either set"
   pub clock-is : (d : Dot) → T (sees (h .state .clock .words) d) ↔ (Paired ms d ⊎ (d ∈ removed ms))
-  -- "and a compaction accepted next leaves just the keys of the pairs not removed"
-  pub compaction-is : OneLabelPerDot (pairs ms) → (past : Bytes) → Accepted h (compactInput past) → step h (compactInput past) .used ≡ storeBytes name (livePairs ms)
   -- "Compaction shall leave the tombstone empty", "Demand 3's last sentence then covers the tombstone too.": no dots, and bytes of 0 throughout
   pub compaction-empties : (past : Bytes) → Accepted h (compactInput past) → step h (compactInput past) .state .tombstone ≡ tombstoneOf []
 
--- two controllers, ms being the messages of both, answer alike, and hold the same after "one accepted compaction on each as its next call"
-pub record Agree (ms : List Message) (h k : Held) : Type 0 where
+-- they list the same, and after a compaction on each have the same store
+pub record ListAlike (h k : Held) : Type 0 where
   -- "Two accepted listings are equal when their bytes written and their numbers of labels are"
-  pub same-listing : OneLabelPerDot (pairs ms) → (past out past′ out′ : Bytes) → Accepted h (listInput past out) → Accepted k (listInput past′ out′)
+  pub same-listing : (past out past′ out′ : Bytes) → Accepted h (listInput past out) → Accepted k (listInput past′ out′)
       → (output (resultOf h (listInput past out)) ≡ output (resultOf k (listInput past′ out′)))
       × (resultOf h (listInput past out) .labels ≡ resultOf k (listInput past′ out′) .labels)
+  -- "Two stores count as equal when their used lengths and used bytes are equal."
+  pub same-store : (past past′ : Bytes) → Accepted h (compactInput past) → Accepted k (compactInput past′)
+      → (step h (compactInput past) .state .used ≡ step k (compactInput past′) .state .used)
+      × (step h (compactInput past) .used ≡ step k (compactInput past′) .used)
+
+-- two controllers, ms being the messages of both, answer alike, and hold the same after "one accepted compaction on each as its next call"
+pub record Agree (ms : List Message) (h k : Held) : Type 0 where
+  pub lists : OneLabelPerDot (pairs ms) → ListAlike h k
   -- "two clocks, when all 16 rows are"
   pub same-clock : (past past′ : Bytes) → Accepted h (compactInput past) → Accepted k (compactInput past′)
       → step h (compactInput past) .state .clock ≡ step k (compactInput past′) .state .clock
   -- the whole tombstone, its unused bytes too
   pub same-tombstone : (past past′ : Bytes) → Accepted h (compactInput past) → Accepted k (compactInput past′)
       → step h (compactInput past) .state .tombstone ≡ step k (compactInput past′) .state .tombstone
-  -- "Two stores count as equal when their used lengths and used bytes are equal."
-  pub same-store : OneLabelPerDot (pairs ms) → (past past′ : Bytes) → Accepted h (compactInput past) → Accepted k (compactInput past′)
-      → (step h (compactInput past) .state .used ≡ step k (compactInput past′) .state .used)
-      × (step h (compactInput past) .used ≡ step k (compactInput past′) .used)
 
 -- a merged read of two controllers, ms being the messages of both, is the rule's listing over them
 pub record Merges (ms : List Message) (h k : Held) : Type 0 where

@@ -1,19 +1,21 @@
 -- Demand 3's premises: two controllers that meet them, and why there is the proviso that no two adds give one dot to different labels.
 use mathlib.Core.Bool.{true}
-use mathlib.Core.List.{List, [], _∷_, _++_}
+use mathlib.Core.List.{List, [], _∷_, _++_, flatMap}
 use mathlib.Core.Path.{_≡_}
 use lib.Dec.{isEq}
-use Rattle.wire.specs.Lists.{all}
+use Rattle.wire.specs.Lists.{all, member}
 use Rattle.wire.specs.Bytes.{compareBytes}
 use Rattle.dots.specs.Answer.{numberOf}
 use Rattle.dots.specs.declared.Answer.the-variants.{Done}
-use Rattle.dots.specs.Entries.{Entry, Line, line}
+use Rattle.dots.specs.Dots.{actorOf}
+use Rattle.dots.specs.Entries.{Entry, compareEntries, Line, line}
 use Rattle.dots.specs.Message.{add}
-use Rattle.replica.specs.Rule.{pairs, ruleListing}
+use Rattle.replica.specs.Rule.{Account, pairs, ruleListing}
+use Rattle.replica.specs.Network.{takenPairs, madeIn}
 use Rattle.keys.specs.Cases.{R1, B7, B8}
 use Rattle.messages.specs.Cases.{a1}
 use Rattle.calls.specs.Calls.{setUp, listed, mergeLines}
-use Rattle.calls.specs.Sequence.{Input, messageInput, listInput, started, run, acceptedMessages, mergeOf, traffic}
+use Rattle.calls.specs.Sequence.{Input, messageInput, listInput, started, run, events, acceptedMessages, mergeOf, traffic}
 use Rattle.calls.specs.Cases.{dot, room, adds, removes, takesIn, compacts, a2, answersOf}
 
 -- ---- the premises met: actor 1 adds B7 twice, as in A2; actor 2 takes the two messages in, the second first
@@ -23,6 +25,10 @@ calls1 = adds [] ∷ adds (dot 1 1 ∷ []) ∷ []
 
 abbrev pub calls2 : List Input
 calls2 = messageInput a2 room ∷ messageInput (a1 .bytes) room ∷ []
+
+-- what the rule reads of both
+abbrev pub accounts : List Account
+accounts = record { actor = actorOf 1; events = events (started 1 R1) calls1 } ∷ record { actor = actorOf 2; events = events (started 2 R1) calls2 } ∷ []
 
 -- every pair has the label B7
 abbrev OnlyB7 : List Entry → Type 0
@@ -35,6 +41,9 @@ pub record PremisesMet : Type 0 where
   pub traffic-2 : traffic (started 2 R1) calls2 ≡ a2 ∷ a1 .bytes ∷ []
   pub labels-1 : OnlyB7 (pairs (acceptedMessages 1 R1 calls1))
   pub labels : OnlyB7 (pairs (acceptedMessages 1 R1 calls1 ++ acceptedMessages 2 R1 calls2))
+  -- they are a network: what is taken in was added there, and each own add is of B7
+  pub unforged : all (λ (e : Entry). member compareEntries e (madeIn accounts)) (flatMap takenPairs accounts) ≡ true
+  pub made : OnlyB7 (madeIn accounts)
   -- the calls that demand 3 asks about are accepted next
   pub next-1 : answersOf (run (started 1 R1) calls1) (listInput room room ∷ compacts ∷ []) ≡ 0 ∷ 0 ∷ []
   pub next-2 : answersOf (run (started 2 R1) calls2) (listInput room room ∷ compacts ∷ []) ≡ 0 ∷ 0 ∷ []

@@ -12,7 +12,7 @@ use Rattle.replica.specs.Read.{mergedEntries}
 use Rattle.replica.specs.Cases.{run, events, SlipCases, CompactionCases, HandOffCases, MergeCases}
 
 -- all that the cases compute with: whoever unfolds this unfolds each of these
-computing : Unit {0}
+unfoldable pub computing : Unit {0}
 unfolding keep any all compareLists member insert insertAll dotOk prepend linesOf testBit seen trailingOnes settled marked join total known climb unbroken windowEvents tooFar rowAt unused withRow sees allTo joinDot joinEach joinAll countersOf near messagesOf apply compacted handedOff listing effect allowed addsOf noteActor noteOwnAdd historyFrom run events mergedEntries
 computing = tt
 

@@ -4,28 +4,24 @@ use mathlib.Core.Bool.{Bool, true, false, cond}
 use Prim.Native.Nat.{ℕ}
 use lib.Dec.{T, eqb}
 use Rattle.wire.proofs.Tests.{pass}
-use Rattle.clock.specs.Row.{windowWidth}
-use Rattle.replica.specs.Clock.{ClockModel}
 use Rattle.replica.specs.Machine.{Call, State, Controller, effect, exchanged, allowed}
 use Rattle.replica.specs.Demand3.{FollowsTheRule, ReplicasAgree}
 use Rattle.replica.specs.Read.{TwoRacks}
-use Rattle.replica.specs.RowClock.{rowClock}
-use Rattle.replica.proofs.RowClock.{controllers-follow, controllers-agree, controllers-merge}
+use Rattle.replica.specs.Network.{WorkshopsHold}
+use Rattle.replica.specs.Cases.{clock}
+use Rattle.replica.proofs.RowClock.{controllers-follow, controllers-agree, controllers-merge, controllers-hold}
 
-abbrev clock : ClockModel
-clock = rowClock windowWidth
-
-number : Bool → ℕ
+unfoldable pub number : Bool → ℕ
 number true = 0
 number false = 1
 
-done : (b : Bool) → number b ≡ 0 → b ≡ true
+pub done : (b : Bool) → number b ≡ 0 → b ≡ true
 unfolding number
 done true e = refl
 done false e = absurd (subst (λ n. T (eqb n 1)) e tt)
 
 -- it refuses nothing that it need not
-pub machine : Controller clock
+unfoldable pub machine : Controller clock
 unfolding number
 machine = record {
   Held = State clock;
@@ -53,3 +49,6 @@ machines-agree = controllers-agree machine
 
 pub machines-merge : TwoRacks clock machine
 machines-merge = controllers-merge machine
+
+pub machines-hold : WorkshopsHold clock machine
+machines-hold = controllers-hold machine

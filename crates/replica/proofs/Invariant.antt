@@ -24,7 +24,7 @@ use Rattle.replica.proofs.Listings.{fewer}
 use Rattle.replica.proofs.Shrinking.{compaction-shrinks}
 
 -- one own add more counts for its actor
-adds-more : {t : Bool} (a b : Actor) (bs : List Actor) → isEq (compareActors a b) ≡ t → addsOf a (b ∷ bs) ≡ addsOf a bs + cond t 1 0
+pub adds-more : {t : Bool} (a b : Actor) (bs : List Actor) → isEq (compareActors a b) ≡ t → addsOf a (b ∷ bs) ≡ addsOf a bs + cond t 1 0
 unfolding addsOf
 adds-more a b bs e = ap (λ (t : Bool). addsOf a bs + cond t 1 0) e
 

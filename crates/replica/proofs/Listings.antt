@@ -1,17 +1,24 @@
 -- The rule's listing: it means what document 01 says, and depends only on which messages there are. Assumes nothing.
 use mathlib.Core.Path.{_≡_}
-use mathlib.Core.Logic.{_↔_, _⊎_, inl, inr, ⊎-map}
-use mathlib.Core.List.{List, [], List·Memᴰ·not-nil}
+use mathlib.Core.Logic.{_↔_, _⊎_, inl, inr, ⊎-elim, ⊎-map}
+use mathlib.Core.List.{List, [], _++_, flatMap, List·Memᴰ·not-nil, Memᴰ·append-left, Memᴰ·append-right}
 use lib.Dec.{not-T}
 use Rattle.wire.specs.Lists.{_∈_, SameMembers, keep, member, Ascending}
 use Rattle.dots.specs.declared.Dot.{Dot}
 use Rattle.dots.specs.Dots.{compareDots}
 use Rattle.dots.specs.Entries.{Entry, entry, compareEntries}
 use Rattle.dots.specs.Message.{Message, contextOf, pairsOf}
-use Rattle.wire.proofs.Lists.{keep-member, member-keep, flatMap-mono, member-sound, not-member, insertAll-member, member-insertAll, ascending-insertAll, ascending-unique}
+use Rattle.wire.proofs.Lists.{member-append, keep-member, member-keep, flatMap-member, member-flatMap, flatMap-mono, member-sound, not-member, insertAll-member, member-insertAll, ascending-insertAll, ascending-unique}
 use Rattle.dots.proofs.Orders.{dots, entries}
 use Rattle.dots.proofs.Lines.{entries-lines, lines-ascend, lines-filled}
 use Rattle.replica.specs.Rule.{pairs, removed, Paired, kept, livePairs, ruleListing, IsListing, OneLabelPerDot}
+
+-- of two lists' elements together
+pub flatMap-append : {A B : Type 0} (f : A → List B) (xs ys : List A) {y : B} → (y ∈ flatMap f (xs ++ ys)) ↔ ((y ∈ flatMap f xs) ⊎ (y ∈ flatMap f ys))
+flatMap-append f xs ys = (
+  λ k. let w = flatMap-member f (xs ++ ys) k in ⊎-map (λ m. member-flatMap f xs m (w .2)) (λ m. member-flatMap f ys m (w .2)) (member-append .0 (w .1)),
+  ⊎-elim (flatMap-mono f (λ x. Memᴰ·append-left ys) _) (flatMap-mono f (λ x. Memᴰ·append-right xs) _),
+)
 
 -- a pair is live exactly if it is not removed
 pub live-pair : (ms : List Message) (e : Entry) → e ∈ pairs ms → (e .dot ∈ removed ms → ⊥) → e ∈ livePairs ms

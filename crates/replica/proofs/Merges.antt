@@ -6,7 +6,7 @@ use mathlib.Core.List.{List, [], _++_, flatMap, Memᴰ·append-left, Memᴰ·app
 use lib.Dec.{T, T-not}
 use Rattle.wire.specs.Lists.{_∈_, keep, member, Ascending}
 use Rattle.wire.proofs.Tests.{decide, T-either, T-left, T-right}
-use Rattle.wire.proofs.Lists.{member-append, keep-member, member-keep, flatMap-member, member-flatMap, flatMap-mono, member-sound, member-complete, insertAll-member, member-insertAll, ascending-insertAll, ascending-keep, ascending-unique}
+use Rattle.wire.proofs.Lists.{member-append, keep-member, member-keep, flatMap-mono, member-sound, member-complete, insertAll-member, member-insertAll, ascending-insertAll, ascending-keep, ascending-unique}
 use Rattle.dots.specs.declared.Dot.{Dot}
 use Rattle.dots.specs.Entries.{Entry, entry, compareEntries}
 use Rattle.dots.specs.Message.{Message, contextOf, pairsOf}
@@ -14,7 +14,7 @@ use Rattle.dots.proofs.Orders.{entries}
 use Rattle.replica.specs.Clock.{ClockModel}
 use Rattle.replica.specs.Rule.{pairs, removed, Paired, kept, livePairs, OneLabelPerDot}
 use Rattle.replica.specs.Read.{Read, keptBeside, mergedEntries}
-use Rattle.replica.proofs.Listings.{fewer, live-pair, pair-live, live-pairs-are}
+use Rattle.replica.proofs.Listings.{flatMap-append, fewer, live-pair, pair-live, live-pairs-are}
 
 module _ (C : ClockModel) where
   abbrev pub Ascends : Read C → Type 0
@@ -77,19 +77,14 @@ module _ (C : ClockModel) where
 
   module _ {ms ns : List Message} {r t : Read C} (p : Represents ms r) (q : Represents ns t) where
     left : {A : Type 0} (f : Message → List A) (x : A) → x ∈ flatMap f ms → x ∈ flatMap f (ms ++ ns)
-    left f = flatMap-mono f (λ m. Memᴰ·append-left ns)
+    left f x k = flatMap-append f ms ns .1 (inl k)
 
     right : {A : Type 0} (f : Message → List A) (x : A) → x ∈ flatMap f ns → x ∈ flatMap f (ms ++ ns)
-    right f = flatMap-mono f (λ m. Memᴰ·append-right ms)
-
-    either : {A : Type 0} (f : Message → List A) {x : A} → x ∈ flatMap f (ms ++ ns) → (x ∈ flatMap f ms) ⊎ (x ∈ flatMap f ns)
-    either f k =
-        let w = flatMap-member f (ms ++ ns) k in
-        ⊎-map (λ m. member-flatMap f ms m (w .2)) (λ m. member-flatMap f ns m (w .2)) (member-append .0 (w .1))
+    right f x k = flatMap-append f ms ns .1 (inr k)
 
     -- listed by the first, and by the second or unseen there: a pair, and removed at neither
     kept-live : (e : Entry) → Beside r t e → (e ∈ pairs (ms ++ ns)) × (e .dot ∈ removed (ms ++ ns) → ⊥)
-    kept-live e w = (left pairsOf e (a .0), λ g. ⊎-elim (a .1) (λ n. ⊎-elim (λ m. live-in q e m .1 n) (unseen n) (w .1)) (either contextOf g))
+    kept-live e w = (left pairsOf e (a .0), λ g. ⊎-elim (a .1) (λ n. ⊎-elim (λ m. live-in q e m .1 n) (unseen n) (w .1)) (flatMap-append contextOf ms ns .0 g))
       where
         a : (e ∈ pairs ms) × (e .dot ∈ removed ms → ⊥)
         a = live-in p e (w .0)
@@ -126,4 +121,4 @@ module _ (C : ClockModel) where
       complete : (e : Entry) → e ∈ pairs (ms ++ ns) → (e .dot ∈ removed (ms ++ ns) → ⊥) → e ∈ mergedEntries C r t
       complete e k n = merged-member r t e .1 (⊎-map (live-kept p q single e k n)
           (live-kept q p (fewer (swapped ns ms) single) e (flatMap-mono pairsOf (swapped ms ns) e k) (λ g. n (flatMap-mono contextOf (swapped ns ms) (e .dot) g)))
-          (either p q pairsOf k))
+          (flatMap-append pairsOf ms ns .0 k))

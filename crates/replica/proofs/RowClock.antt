@@ -6,7 +6,7 @@ use Prim.Native.Nat.{ℕ, _+_, _≤_}
 use native.Mathlib.Omega.{arith}
 use lib.Dec.{T, eqb, eqb→eq}
 use lib.ListN.{length-replicate}
-use Rattle.wire.specs.Lists.{_∈_, sort}
+use Rattle.wire.specs.Lists.{_∈_, SameMembers, sort}
 use Rattle.wire.proofs.Tests.{both-ways, pass, fail, holds, T-both}
 use Rattle.dots.specs.declared.Dot.{Dot}
 use Rattle.dots.specs.Dots.{actorOf, dotOf, compareDots}
@@ -16,10 +16,12 @@ use Rattle.clock.proofs.Rows.{row-eq, seen-low, next-unseen, one-form}
 use Rattle.clock.proofs.Clocks.{Formed, row-empty, rows-eq, zero-formed, zero-unseen as zero-row-unseen, joinEach-formed, sorted-ready, join-sees}
 use Rattle.replica.specs.Clock.{ClockModel, ClockLaws}
 use Rattle.replica.specs.Machine.{Controller}
-use Rattle.replica.specs.Demand3.{FollowsTheRule, ReplicasAgree}
+use Rattle.replica.specs.Demand3.{Life, accepted, trafficOf, FollowsTheRule, ReplicasAgree}
 use Rattle.replica.specs.Read.{TwoRacks}
+use Rattle.replica.specs.Network.{WorkshopsHold}
 use Rattle.replica.specs.RowClock.{rowClock}
-use Rattle.replica.proofs.Theorems.{follows-the-rule, replicas-agree, two-racks}
+use Rattle.replica.proofs.Theorems.{traffic-is, follows-the-rule, replicas-agree, two-racks}
+use Rattle.replica.proofs.Networks.{workshops-hold}
 
 pub unused-row : (words : List ℕ) (a : ℕ) → T (unused words a) → rowAt words a ≡ zeroRow
 unfolding unused
@@ -64,3 +66,10 @@ controllers-agree = replicas-agree (rowClock windowWidth) (rowClockLaws windowWi
 
 pub controllers-merge : (K : Controller (rowClock windowWidth)) → TwoRacks (rowClock windowWidth) K
 controllers-merge = two-racks (rowClock windowWidth) (rowClockLaws windowWidth (omega arith))
+
+-- the rule's messages are the traffic
+pub controllers-exchange : (K : Controller (rowClock windowWidth)) (c : Life (rowClock windowWidth) K) → SameMembers (accepted (rowClock windowWidth) K c) (trafficOf (rowClock windowWidth) K c)
+controllers-exchange = traffic-is (rowClock windowWidth) (rowClockLaws windowWidth (omega arith))
+
+pub controllers-hold : (K : Controller (rowClock windowWidth)) → WorkshopsHold (rowClock windowWidth) K
+controllers-hold = workshops-hold (rowClock windowWidth) (rowClockLaws windowWidth (omega arith))

@@ -18,8 +18,8 @@ use Rattle.dots.proofs.Orders.{dots, entries}
 use Rattle.dots.proofs.Lines.{label-of-line, line-of-label}
 use Rattle.replica.specs.Clock.{ClockModel, ClockLaws}
 use Rattle.replica.specs.Machine.{messagesOf, State, live, liveKeys, compacted, listing, found, effect, Controller}
-use Rattle.replica.specs.Rule.{History, noHistory, noted, historyFrom, pairs, removed, livePairs, ruleListing, OneLabelPerDot}
-use Rattle.replica.specs.Demand3.{accepts, run, events, traffic, Compacts, Life, endOf, accepted, trafficOf, FollowsTheRule, ReplicasAgree}
+use Rattle.replica.specs.Rule.{History, noHistory, noted, historyFrom, historyOf, pairs, removed, livePairs, ruleListing, OneLabelPerDot}
+use Rattle.replica.specs.Demand3.{accepts, run, events, traffic, Compacts, Life, endOf, accountOf, accepted, trafficOf, FollowsTheRule, ReplicasAgree}
 use Rattle.replica.specs.Read.{readOf, TwoRacks}
 use Rattle.replica.proofs.Invariant.{Invariant, at-start, next-dot, call-keeps}
 use Rattle.replica.proofs.Listings.{fewer, is-listing, live-pairs-are, same-named, same-live}
@@ -125,13 +125,10 @@ module _ (C : ClockModel) (L : ClockLaws C) (K : Controller C) where
 
   -- ---- of every life, whatever labels share a dot
 
-  abbrev historyOf : Life C K → History
-  historyOf c = historyFrom (noHistory (c .actor)) (events C K (c .start) (c .calls))
-
   begins : (c : Life C K) → Invariant C L (K .view (c .start)) (noHistory (c .actor))
   begins c = rw (c .fresh) (at-start C L (c .actor))
 
-  pub life-keeps : (c : Life C K) → Invariant C L (K .view (endOf C K c)) (historyOf c)
+  pub life-keeps : (c : Life C K) → Invariant C L (K .view (endOf C K c)) (historyOf (accountOf C K c))
   life-keeps c = run-keeps (begins c) (c .calls)
 
   -- the rule's messages are the traffic
@@ -146,14 +143,16 @@ module _ (C : ClockModel) (L : ClockLaws C) (K : Controller C) where
   unfolding listing ruleListing compacted
   follows-the-rule c = record {
     clock-is = λ d. (inv .seen-named d, inv .named-seen d);
-    listing-is = λ single. ap linesOf (live-keys C L inv single);
     rule-means = is-listing (accepted C K c);
-    lookup-is = λ single l. rw (← (live-keys C L inv single)) (found-label C (K .view (endOf C K c)) l);
-    compaction-is = λ single i z. ap (λ (s : State C). s .keys) (compaction-does z) ∙ live-keys C L inv single;
     compaction-empties = λ i z. compaction-empties z;
+    lists = λ single. record {
+      listing-is = ap linesOf (live-keys C L inv single);
+      lookup-is = λ l. rw (← (live-keys C L inv single)) (found-label C (K .view (endOf C K c)) l);
+      compaction-is = λ i z. ap (λ (s : State C). s .keys) (compaction-does z) ∙ live-keys C L inv single;
+    };
   }
     where
-      inv : Invariant C L (K .view (endOf C K c)) (historyOf c)
+      inv : Invariant C L (K .view (endOf C K c)) (historyOf (accountOf C K c))
       inv = life-keeps c
 
   pub replicas-agree : ReplicasAgree C K
@@ -161,14 +160,16 @@ module _ (C : ClockModel) (L : ClockLaws C) (K : Controller C) where
   replicas-agree c d same = record {
     same-clock = λ i j y z. ap (λ (s : State C). s .clock) (compaction-does y) ∙ equal-clocks C L inv inv′ alike ∙ sym (ap (λ (s : State C). s .clock) (compaction-does z));
     same-tombstone = λ i j y z. compaction-empties y ∙ sym (compaction-empties z);
-    same-listing = λ single. ap linesOf (keys single);
-    same-keys = λ single i j y z. ap (λ (s : State C). s .keys) (compaction-does y) ∙ keys single ∙ sym (ap (λ (s : State C). s .keys) (compaction-does z));
+    lists = λ single. record {
+      same-listing = ap linesOf (keys single);
+      same-keys = λ i j y z. ap (λ (s : State C). s .keys) (compaction-does y) ∙ keys single ∙ sym (ap (λ (s : State C). s .keys) (compaction-does z));
+    };
   }
     where
-      inv : Invariant C L (K .view (endOf C K c)) (historyOf c)
+      inv : Invariant C L (K .view (endOf C K c)) (historyOf (accountOf C K c))
       inv = life-keeps c
 
-      inv′ : Invariant C L (K .view (endOf C K d)) (historyOf d)
+      inv′ : Invariant C L (K .view (endOf C K d)) (historyOf (accountOf C K d))
       inv′ = life-keeps d
 
       alike : SameMembers (accepted C K c) (accepted C K d)

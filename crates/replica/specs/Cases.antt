@@ -15,16 +15,16 @@ use Rattle.replica.specs.Rule.{Event, noHistory, historyFrom}
 use Rattle.replica.specs.Read.{readOf, mergedLines}
 use Rattle.replica.specs.RowClock.{rowClock}
 
-abbrev clock : ClockModel
+abbrev pub clock : ClockModel
 clock = rowClock windowWidth
 
-abbrev B7 : Label
+abbrev pub B7 : Label
 B7 = 0x42 ∷ 0x37 ∷ []
 
-abbrev B8 : Label
+abbrev pub B8 : Label
 B8 = 0x42 ∷ 0x38 ∷ []
 
-abbrev dot : ℕ → ℕ → Dot
+abbrev pub dot : ℕ → ℕ → Dot
 dot a n = dotOf (actorOf a) n
 
 -- a call that is not allowed changes nothing

@@ -33,6 +33,8 @@ module _ (C : ClockModel) where
 
   -- "the merged listing is what demand 3's rule gives over all calls that either accepted"
   module _ (K : Controller C) where
+    abbrev pub MergesByRule : Life C K → Life C K → Type 0
+    MergesByRule c d = mergedLines (readOf (K .view (endOf C K c))) (readOf (K .view (endOf C K d))) ≡ ruleListing (accepted C K c ++ accepted C K d)
+
     abbrev pub TwoRacks : Type 0
-    TwoRacks = (c d : Life C K) → OneLabelPerDot (pairs (accepted C K c ++ accepted C K d))
-        → mergedLines (readOf (K .view (endOf C K c))) (readOf (K .view (endOf C K d))) ≡ ruleListing (accepted C K c ++ accepted C K d)
+    TwoRacks = (c d : Life C K) → OneLabelPerDot (pairs (accepted C K c ++ accepted C K d)) → MergesByRule c d

@@ -61,9 +61,21 @@ abbrev pub noted : History → Call → History
 noted h c = record { actor = noteActor (h .actor) c; ownAdds = noteOwnAdd h c; messages = messagesOf (nextOwn h) c ++ h .messages }
 
 -- "A refused call, a listing, a lookup or a compaction changes neither."
+abbrev pub after : History → Event → History
+after h e = cond (e .accepted) (noted h (e .call)) h
+
 unfoldable pub historyFrom : History → List Event → History
 historyFrom h [] = h
-historyFrom h (e ∷ es) = historyFrom (cond (e .accepted) (noted h (e .call)) h) es
+historyFrom h (e ∷ es) = historyFrom (after h e) es
+
+-- all that the rule reads of a life
+pub record Account : Type 0 where
+  -- at set-up
+  pub actor : Actor
+  pub events : List Event
+
+abbrev pub historyOf : Account → History
+historyOf c = historyFrom (noHistory (c .actor)) (c .events)
 
 -- The two sets: "pairs of label and dot, and removed dots". "An accepted add puts its pair in the first and its context's dots in the second;
 -- an accepted remove only puts its context's dots in the second."

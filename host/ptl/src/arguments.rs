@@ -8,7 +8,7 @@ use std::collections::BTreeMap;
 pub const USAGE: &str = "\
 usage: ptl console
        ptl compare [--calls N] [--seed S] [--against reference|baseline|tuned|fastest]
-       ptl simulate [--seed S] [--svg FILE] [--quiet]
+       ptl simulate [--seed S] [--svg FILE] [--quiet] [--forget] [--same-actor]
        ptl bench [--quick] [--fastest]
        ptl --help | -h | --version
 
@@ -21,10 +21,14 @@ compare   runs N random calls (200000) from the seed S (1) on the product and on
           the first difference with a script of it; exit status 1 on a difference, and
           if N is at least 200000 and an answer that a call can give was not met
 simulate  plays a day of fifteen controllers, a spare one and a bad radio from the seed
-          S (1): a line a phase, then which bins each lamp lights; --svg draws to FILE how
-          many agree over time, --quiet prints the last line alone; exit status 1 if
-          a controller disagrees with the rule of what it accepted, or in the end
-          with the rule of all messages
+          S (1): a line a phase, then which bins each lamp lights, and whether the premise
+          of demand 3 held at every step; --svg draws to FILE how many agree over time,
+          --quiet prints the last line alone. Two options break the premise: --forget has a
+          controller come back with an older state and store under its own actor and add,
+          --same-actor has two load images under one actor; the clause that broke is told,
+          the step, and what came of it. Exit status 1 if the premise breaks, or a
+          controller disagrees with the rule of what it accepted, or in the end with the
+          rule of all messages
 bench     times the product against the plain and the tuned form of the baseline and
           prints tables of times and ratios; --fastest takes the fastest form in place
           of the tuned one, --quick takes a few seconds and is less exact; exit status 1
@@ -71,6 +75,8 @@ const COMMANDS: [(&str, &[Choice]); 4] = [
             ("--seed", NUMBER),
             ("--svg", Some("a file")),
             ("--quiet", None),
+            ("--forget", None),
+            ("--same-actor", None),
         ],
     ),
     ("bench", &[("--quick", None), ("--fastest", None)]),
@@ -95,6 +101,10 @@ pub fn asked(arguments: &[String]) -> Result<Asked, String> {
             seed: given.number("--seed", 1)?,
             svg: given.values.get("--svg").map(|file| file.to_string()),
             quiet: given.has("--quiet"),
+            breach: simulate::Breach {
+                forget: given.has("--forget"),
+                same_actor: given.has("--same-actor"),
+            },
         })),
         "bench" => Ok(Asked::Bench {
             plan: match given.has("--quick") {

@@ -51,15 +51,17 @@ ptl compare --against: compare --against wants reference, baseline, tuned or fas
 ptl bench x: bench has no 'x'; it has --quick, --fastest
 ptl bench --quick --quick: bench --quick is given twice
 ptl bench --fastest --fastest: bench --fastest is given twice
-ptl simulate x: simulate has no 'x'; it has --seed, --svg, --quiet
+ptl simulate x: simulate has no 'x'; it has --seed, --svg, --quiet, --forget, --same-actor
 ptl simulate --seed: simulate --seed wants NUMBER
 ptl simulate --seed x: simulate --seed wants NUMBER, not 'x'
 ptl simulate --seed 1 --seed 1: simulate --seed is given twice
 ptl simulate --svg: simulate --svg wants a file
 ptl simulate --svg a --svg a: simulate --svg is given twice
 ptl simulate --quiet --quiet: simulate --quiet is given twice
-ptl simulate --quiet x: simulate has no 'x'; it has --seed, --svg, --quiet
-ptl simulate --calls 1: simulate has no '--calls'; it has --seed, --svg, --quiet
+ptl simulate --quiet x: simulate has no 'x'; it has --seed, --svg, --quiet, --forget, --same-actor
+ptl simulate --forget --forget: simulate --forget is given twice
+ptl simulate --same-actor 3: simulate has no '3'; it has --seed, --svg, --quiet, --forget, --same-actor
+ptl simulate --calls 1: simulate has no '--calls'; it has --seed, --svg, --quiet, --forget, --same-actor
 ";
 
 #[test]

@@ -1,4 +1,5 @@
-//! `ptl simulate` from outside: five days that end well, the picture, and wrong arguments.
+//! `ptl simulate` from outside: five days that end well, days that break the premise, the picture, and
+//! wrong arguments.
 
 use std::fs;
 use std::path::PathBuf;
@@ -47,6 +48,97 @@ fn five_days_end_with_all_boxes_agreed() {
         assert!(!report.contains("DISAGREE"), "{report}");
         assert!(longest_context(&report) > 16, "{report}");
         assert!(written_since_the_image(&report) > 0, "{report}");
+        let [set_ups, loads, rest @ ..] = checked(&report, "held at every step");
+        assert_eq!([set_ups, loads], [15, 1], "{report}");
+        assert!(rest.iter().all(|number| *number > 500), "{report}");
+    }
+}
+
+/// What the line on the premise counts, if it says this of it: set-ups, loads, accepted calls, own adds,
+/// adds from elsewhere.
+fn checked(report: &str, what: &str) -> [usize; 5] {
+    let lines = report.lines();
+    let told: Vec<&str> = lines
+        .filter(|line| line.starts_with("The premise "))
+        .collect();
+    assert_eq!(told.len(), 1, "{report}");
+    let (said, counts) = told[0].split_once(". Checked: ").expect("counts");
+    assert_eq!(said, format!("The premise {what}"));
+    let numbers = counts
+        .split_whitespace()
+        .filter_map(|word| word.parse().ok());
+    numbers.collect::<Vec<_>>().try_into().expect("five")
+}
+
+/// The clauses that a report tells to be broken, each with phase and box.
+fn broken(report: &str) -> Vec<[&str; 3]> {
+    let lines = report.lines();
+    let lines = lines.filter_map(|line| line.strip_prefix("PREMISE BROKEN: seed "));
+    let told = lines.map(|line| {
+        let (_, after) = line.split_once(" (").expect("a phase");
+        let (phase, after) = after.split_once("), box ").expect("a box");
+        let (at, after) = after.split_once(": ").expect("a clause");
+        let (clause, _) = after.split_once(": it ").expect("what it does");
+        [clause, phase, at]
+    });
+    told.collect()
+}
+
+/// The report of a day that breaks the premise: it fails, tells what came of that, and blames no box.
+fn broken_day(option: &str, seed: &str) -> String {
+    let day = simulate(&["--seed", seed, option]);
+    let report = printed(&day);
+    assert_eq!(day.status.code(), Some(1), "{report}");
+    let came = "Pairs of boxes that accepted the same messages and list different labels: ";
+    let (_, after) = report.split_once(came).expect(option);
+    let (number, after) = after.split_once(". For one, boxes").expect("an example");
+    assert!(number.parse().is_ok_and(|number: usize| number > 0));
+    let dots = after.matches(" (dot ").count();
+    assert_eq!(dots, 2, "{report}");
+    let last = report.lines().last().expect("a last line");
+    assert!(last.contains("; the premise BROKE and "), "{last}");
+    assert!(!report.contains("DISAGREEMENT: "), "{report}");
+    report
+}
+
+/// The box that came back in the evening breaks `goesOn` with its first call, and `made-once` with its
+/// own adds. Until then the day is the sound one.
+#[test]
+fn a_box_that_forgets_own_adds_is_told() {
+    for seed in ["1", "2", "3"] {
+        let report = broken_day("--forget", seed);
+        let sound = printed(&simulate(&["--seed", seed]));
+        for phase in &PHASES[..4] {
+            assert_eq!(line(&report, phase), line(&sound, phase), "{report}");
+        }
+        let (_, after) = report.split_once("In the evening box ").expect("told");
+        let (at, after) = after.split_once(" came back ").expect("a box");
+        let (_, after) = after.split_once(" had forgotten: ").expect("own adds");
+        let (own_adds, _) = after.split_once('.').expect("how many");
+        let told = ["goesOn", "made-once"].map(|clause| [clause, "evening", at]);
+        assert_eq!(broken(&report), told, "{report}");
+        let what = format!("BROKE (goesOn 1, made-once {own_adds})");
+        assert_eq!(checked(&report, &what)[..2], [15, 1]);
+    }
+}
+
+/// The load breaks `goesOn`, the next call of the box that has the actor too, and `made-once` what
+/// either adds under a dot of the other.
+#[test]
+fn an_actor_that_is_given_out_twice_is_told() {
+    for seed in ["1", "2", "3"] {
+        let report = broken_day("--same-actor", seed);
+        let dead = report.split("At noon box ").skip(1);
+        let dead: Vec<&str> = dead.filter_map(|told| told.split(' ').next()).collect();
+        let [first, second] = dead[..] else {
+            panic!("{report}");
+        };
+        let told = broken(&report);
+        assert_eq!(told[0], ["goesOn", "lunch", second], "{report}");
+        assert!(told.contains(&["goesOn", "lunch", first]), "{report}");
+        let made = |told: &&[&str; 3]| told[0] == "made-once" && dead.contains(&told[2]);
+        let made = told.iter().filter(made).count();
+        assert!(made > 0 && made + 2 == told.len(), "{report}");
     }
 }
 
@@ -118,6 +210,18 @@ fn quiet_prints_the_last_line_alone() {
     let (loud, quiet) = (printed(&loud), printed(&quiet));
     assert_eq!(quiet.lines().count(), 1);
     assert_eq!(loud.lines().last(), quiet.lines().last());
+}
+
+#[test]
+fn quiet_tells_what_broke_the_premise() {
+    let day = simulate(&["--quiet", "--forget"]);
+    assert_eq!(day.status.code(), Some(1));
+    let report = printed(&day);
+    assert_eq!(broken(&report).len() + 1, report.lines().count());
+    assert!(report
+        .lines()
+        .last()
+        .is_some_and(|line| line.starts_with("Seen: ")));
 }
 
 /// A file of this test's own.

@@ -2,6 +2,7 @@
 
 use super::floor::Floor;
 use super::station::Station;
+use ptl::Entry;
 use reference::Rule;
 use std::collections::BTreeSet;
 
@@ -38,8 +39,7 @@ impl Floor<'_> {
     fn wrong(&self) -> usize {
         let live = live_labels(&self.all);
         let wrong = |station: &Station| {
-            let entries = station.entries(self.engine).into_iter();
-            let listed: BTreeSet<Vec<u8>> = entries.map(|entry| entry.label.0).collect();
+            let listed = labels_of(&station.entries(self.engine));
             listed.symmetric_difference(&live).count()
         };
         self.stations.iter().map(wrong).sum()
@@ -77,6 +77,11 @@ impl Floor<'_> {
         };
         self.stations.iter().filter(lights).count()
     }
+}
+
+/// The labels of a listing.
+pub fn labels_of(entries: &[Entry]) -> BTreeSet<Vec<u8>> {
+    entries.iter().map(|entry| entry.label.0.clone()).collect()
 }
 
 /// The labels that a rule lists.

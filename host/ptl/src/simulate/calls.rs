@@ -8,6 +8,7 @@ use limits::DOT_SIZE;
 use ptl::Answer;
 
 /// Answers that a box meets in an honest day, beside 0 and those to noise.
+pub const OWN_AHEAD: u8 = Answer::OwnAhead as u8;
 pub const TOO_FAR: u8 = Answer::TooFar as u8;
 const TOMBSTONE_FULL: u8 = Answer::TombstoneFull as u8;
 pub const STORE_FULL: u8 = Answer::StoreFull as u8;
@@ -32,6 +33,7 @@ impl Floor<'_> {
             if !self.stations[at].tell(command) {
                 self.fault(at, "accepts what is no call of the rules".into());
             }
+            self.note_call(at, command, &said);
         }
         if said.answer != 0 && !self.stations[at].is_as_kept() {
             self.fault(at, format!("answers {} and yet changes", said.answer));

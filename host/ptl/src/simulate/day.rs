@@ -115,6 +115,7 @@ impl Floor<'_> {
         if phase.plan == Plan::Move {
             self.swap();
         }
+        self.break_premise(phase.plan);
         for _ in 0..phase.rounds {
             let mut tasks = self.tasks(phase.plan);
             while !tasks.is_empty() {
@@ -157,7 +158,7 @@ impl Floor<'_> {
             Plan::Fill => self.filling(),
             Plan::Work(number) => (0..number).map(|_| self.something()).collect(),
             Plan::Move => self.moving(),
-            Plan::GetThrough => Vec::new(),
+            Plan::GetThrough => self.going_on(),
         };
         shuffle(&mut self.random, &mut tasks);
         tasks.into()

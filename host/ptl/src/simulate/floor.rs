@@ -2,10 +2,12 @@
 //! messages.
 
 use super::agreement::Sample;
+use super::breach::{Breach, Forgot};
 use super::calls::Blocked;
 use super::day::Phase;
 use super::goods::BOXES;
 use super::lamps::AfterMove;
+use super::premise::Premise;
 use super::radio::Radio;
 use super::station::Station;
 use super::swap::Swap;
@@ -63,8 +65,12 @@ pub struct Floor<'a> {
     pub blocked: Blocked,
     /// What a person asks two boxes at once with.
     pub together: Together,
-    /// The box that died, and how its place was taken.
-    pub swapped: Option<Swap>,
+    /// The boxes that died, and how their places were taken.
+    pub swapped: Vec<Swap>,
+    pub premise: Premise,
+    /// What is to break it, and the box that forgot own adds.
+    pub breach: Breach,
+    pub forgot: Option<Forgot>,
     pub phase: &'static str,
     seed: u64,
     faults: Vec<String>,
@@ -94,7 +100,10 @@ impl<'a> Floor<'a> {
             terminal: Terminal::new(seed),
             blocked: Blocked::default(),
             together: Together::new(seed),
-            swapped: None,
+            swapped: Vec::new(),
+            premise: Premise::default(),
+            breach: Breach::default(),
+            forgot: None,
             phase: "set-up",
             seed,
             faults: Vec::new(),
@@ -103,8 +112,9 @@ impl<'a> Floor<'a> {
         for at in 0..BOXES {
             let (station, answer) = Station::set_up(engine, at as u8 + 1);
             floor.stations.push(station);
-            if answer != 0 {
-                floor.fault(at, format!("answers {answer} to its set-up"));
+            match answer {
+                0 => floor.note_set_up(at),
+                _ => floor.fault(at, format!("answers {answer} to its set-up")),
             }
         }
         floor
@@ -125,20 +135,28 @@ impl<'a> Floor<'a> {
         }
     }
 
-    /// Notes a disagreement; of each box the first only.
+    /// Notes a disagreement; of each box the first only. Where the premise broke as it was asked to,
+    /// it is counted and no more: demand 3 says nothing then.
     pub fn fault(&mut self, at: usize, what: String) {
         let station = &mut self.stations[at];
         if !std::mem::replace(&mut station.told, true) {
-            let (seed, call, phase) = (self.seed, self.calls, self.phase);
-            self.faults.push(format!(
-                "DISAGREEMENT: seed {seed}, call {call} ({phase}), box {}: {what}",
-                at + 1
-            ));
             self.disagreements += 1;
+            if self.premise.holds() || !self.breach.is_asked() {
+                self.note_line("DISAGREEMENT", at, what);
+            }
         }
     }
 
-    /// The disagreements noted since the last time.
+    /// Notes what a box did, with the call of the day.
+    pub fn note_line(&mut self, word: &str, at: usize, what: String) {
+        let (seed, call, phase) = (self.seed, self.calls, self.phase);
+        self.faults.push(format!(
+            "{word}: seed {seed}, call {call} ({phase}), box {}: {what}",
+            at + 1
+        ));
+    }
+
+    /// What was noted since the last time: disagreements, and clauses of the premise that broke.
     pub fn new_faults(&mut self) -> Vec<String> {
         std::mem::take(&mut self.faults)
     }

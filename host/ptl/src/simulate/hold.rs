@@ -3,6 +3,7 @@
 use super::agreement::live_labels;
 use super::floor::Floor;
 use super::goods::{part_and_bin, BOXES, WATCHED};
+use super::premise::Pair;
 use super::station::Station;
 use crate::engine::Engine;
 use limits::ACTOR_MAX;
@@ -96,7 +97,8 @@ pub fn differs(listing: Option<Listing>, rule: &Rule) -> Option<String> {
     })
 }
 
-fn pairs(entries: &[Entry]) -> BTreeSet<(Vec<u8>, Dot)> {
+/// Label and dot of each key of a listing.
+pub fn pairs(entries: &[Entry]) -> BTreeSet<Pair> {
     let dots = |entry: &Entry| {
         let dots = entry.dots.iter();
         let dots = dots.filter_map(|dot| Dot::new(dot.actor.0, dot.counter.0));
@@ -122,7 +124,7 @@ fn text(label: &[u8]) -> String {
     label.escape_ascii().to_string()
 }
 
-fn pair_text((label, dot): &(Vec<u8>, Dot)) -> String {
+pub fn pair_text((label, dot): &Pair) -> String {
     let (actor, counter) = (dot.actor.byte(), dot.counter.number());
     format!("{} (dot {actor}:{counter})", text(label))
 }

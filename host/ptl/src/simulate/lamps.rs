@@ -83,16 +83,27 @@ impl Floor<'_> {
         let (lying, springs) = (self.after_move.lying, self.after_move.lying_springs);
         let (end, agree) = (self.lighting(&self.gone(&self.labels)), self.agree());
         let (labels, messages) = (self.all.listing().1, self.posted.len());
-        let verdict = match self.disagreements() {
-            0 => String::new(),
-            1 => "; 1 box DISAGREED, see above".into(),
-            some => format!("; {some} boxes DISAGREED, see above"),
-        };
+        let verdict = self.verdict();
         format!(
             "Seen: right after the move {lying} of {BOXES} boxes lit a bin that had been taken away \
              ({springs} of them {SPRING_BIN} for the gas springs), at the end {end}; {agree} of {BOXES} \
              list the {labels} labels that the rule gives over all {messages} messages{verdict}."
         )
+    }
+
+    /// What went wrong, if anything did.
+    fn verdict(&self) -> String {
+        let broke = (!self.premise.holds()).then(|| "the premise BROKE".to_string());
+        let disagreed = match self.disagreements() {
+            0 => None,
+            1 => Some("1 box DISAGREED".to_string()),
+            some => Some(format!("{some} boxes DISAGREED")),
+        };
+        let wrong: Vec<String> = broke.into_iter().chain(disagreed).collect();
+        match wrong.is_empty() {
+            true => String::new(),
+            false => format!("; {}, see above", wrong.join(" and ")),
+        }
     }
 }
 

@@ -1,6 +1,6 @@
 //! Messages from box to box: written, sent, asked for again, taken in now or later.
 
-use super::calls::{STORE_FULL, TOO_FAR};
+use super::calls::{OWN_AHEAD, STORE_FULL, TOO_FAR};
 use super::floor::{Floor, Posted};
 use super::goods::BOXES;
 use super::radio::{Cargo, Flight, Letter};
@@ -90,18 +90,28 @@ impl Floor<'_> {
         let Some(said) = self.insist(at, &Command::Take { message }) else {
             return;
         };
+        let waits = self.waits(said.answer);
         let station = &mut self.stations[at];
         match said.answer {
             0 => {
                 station.accept(number);
                 station.fresh += 1;
             }
-            TOO_FAR | STORE_FULL => {
+            _ if waits => {
                 if !station.later.contains(&number) {
                     station.later.push(number);
                 }
             }
             answer => self.fault(at, format!("answers {answer} to message {number}")),
+        }
+    }
+
+    /// Whether a message that got this answer is taken in again later. 8 is no answer of an honest day.
+    fn waits(&self, answer: u8) -> bool {
+        match answer {
+            TOO_FAR | STORE_FULL => true,
+            OWN_AHEAD => self.breach.is_asked(),
+            _ => false,
         }
     }
 

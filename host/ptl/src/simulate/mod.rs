@@ -1,7 +1,9 @@
-//! `ptl simulate`: a day of fifteen boxes, a spare one and a bad radio, told in phases. Every box is
-//! held to the rule of demand 3 over what it accepted, and in the end to one rule over all messages.
+//! `ptl simulate`: a day of fifteen boxes, a spare one and a bad radio, told in phases. Every box is held
+//! to the rule of demand 3 over what it accepted, and in the end to one rule over all messages; every
+//! step is held to the premise of demand 3.
 
 mod agreement;
+mod breach;
 mod calls;
 mod day;
 mod evening;
@@ -11,6 +13,7 @@ mod hold;
 mod lamps;
 mod mail;
 mod picture;
+mod premise;
 mod radio;
 mod station;
 mod swap;
@@ -23,6 +26,7 @@ mod weather;
 mod work;
 
 use crate::engine::Engine;
+pub use breach::Breach;
 use calls::Blocked;
 use day::PHASES;
 use floor::Floor;
@@ -40,11 +44,13 @@ pub struct Options {
     pub seed: u64,
     /// The file that the picture goes to.
     pub svg: Option<String>,
-    /// Whether disagreements and the last line alone are printed.
+    /// Whether disagreements, what broke the premise and the last line alone are printed.
     pub quiet: bool,
+    /// What is to break the premise.
+    pub breach: Breach,
 }
 
-/// Runs a day. False if a box disagreed with a rule.
+/// Runs a day. False if a box disagreed with a rule, or the premise broke.
 pub fn simulate(
     engine: &dyn Engine,
     options: &Options,
@@ -52,10 +58,11 @@ pub fn simulate(
 ) -> io::Result<bool> {
     let file = options.svg.as_deref().map(create).transpose()?;
     let mut floor = Floor::new(engine, options.seed);
+    floor.breach = options.breach;
     let mut picture = Picture::new(options.seed);
     let loud = !options.quiet;
     if loud {
-        head(options.seed, report)?;
+        head(options, report)?;
     }
     for phase in &PHASES {
         floor.play(phase);
@@ -74,7 +81,7 @@ pub fn simulate(
     if let Some(mut file) = file {
         file.write_all(picture.svg(&floor.samples).as_bytes())?;
     }
-    Ok(floor.disagreements() == 0)
+    Ok(floor.disagreements() == 0 && floor.premise.holds())
 }
 
 /// Makes the file before the day begins, so that a wrong name is told at once.
@@ -84,7 +91,8 @@ fn create(path: &str) -> io::Result<File> {
 }
 
 /// What the lines will mean.
-fn head(seed: u64, report: &mut dyn Write) -> io::Result<()> {
+fn head(options: &Options, report: &mut dyn Write) -> io::Result<()> {
+    let seed = options.seed;
     writeln!(
         report,
         "A day of fifteen boxes, a spare one and a bad radio, seed {seed}."
@@ -92,12 +100,15 @@ fn head(seed: u64, report: &mut dyn Write) -> io::Result<()> {
     for phase in &PHASES {
         writeln!(report, "  {:<10} {}", phase.name, phase.story)?;
     }
+    for story in options.breach.stories() {
+        writeln!(report, "{story}")?;
+    }
     writeln!(report)?;
     writeln!(report, "{}", Tally::head())?;
     report.flush()
 }
 
-/// The disagreements noted since the last time.
+/// What was noted since the last time.
 fn faults(floor: &mut Floor, report: &mut dyn Write) -> io::Result<()> {
     for fault in floor.new_faults() {
         writeln!(report, "{fault}")?;
@@ -131,7 +142,7 @@ fn foot(floor: &Floor, report: &mut dyn Write) -> io::Result<()> {
     let two = floor.together.counts;
     let (reads, reread, news) = (two.reads, two.short, two.news);
     let example = floor.together.example.as_deref().unwrap_or("none");
-    let swap = floor.swap_told();
+    let swaps = floor.swaps_told();
     write!(
         report,
         "{LEGEND}
@@ -148,7 +159,7 @@ Returns of many boxes, all in {RETURNS_BIN}, were cleared by the goods-in desk i
 of the day has {longest} dots of {CONTEXT_DOTS_MAX}.
 Calls that met a tombstone too full for their dots: {once}; that met it again after the compaction
 that followed, which leaves the tombstone empty: {again}.
-{swap}
+{swaps}
 
 Bins that the lamps of each box light at the end of the day, and whether its listing is that of the
 rule of what it accepted and that of one rule of all messages, both computed apart from the boxes. The
@@ -160,5 +171,18 @@ that asked it and their own box at once:
     for line in floor.lamp_table() {
         writeln!(report, "{line}")?;
     }
-    writeln!(report)
+    writeln!(report)?;
+    premise_told(floor, report)
+}
+
+/// What became of the premise, and what came of it if it broke.
+fn premise_told(floor: &Floor, report: &mut dyn Write) -> io::Result<()> {
+    writeln!(report, "{}", floor.premise.line())?;
+    if let Some(forgot) = floor.forgot_told() {
+        writeln!(report, "{forgot}")?;
+    }
+    match floor.premise.holds() {
+        true => Ok(()),
+        false => writeln!(report, "{}", floor.came_of_it()),
+    }
 }

@@ -1,6 +1,7 @@
 //! One box: its working memory, its flash, and the rule of what it accepted.
 
 use super::goods::SET;
+use super::premise::Life;
 use crate::engine::Engine;
 use crate::rule::tell;
 use crate::script::{Command, Rack, Reply, Worded};
@@ -18,6 +19,7 @@ const IMAGE_EVERY: usize = 60;
 
 /// What a power cut leaves: the block and the used bytes of the store, kept together. The messages
 /// that the box wrote are kept with them (`Floor::posted`), so that they can be sent again.
+#[derive(Clone)]
 struct Flash {
     state: State,
     used: Vec<u8>,
@@ -26,6 +28,8 @@ struct Flash {
 /// A hand-off image that the office keeps, with what was true of its writer then.
 struct Kept {
     image: Vec<u8>,
+    flash: Flash,
+    life: Life,
     rule: Rule,
     accepted: Vec<bool>,
 }
@@ -38,6 +42,8 @@ pub struct Station {
     /// The last image of the box, and the calls that it kept since.
     office: Option<Kept>,
     since_image: usize,
+    /// The box as it is now, for the premise.
+    pub life: Life,
     rule: Rule,
     /// By the message's number: whether it was accepted, in a call that was kept.
     accepted: Vec<bool>,
@@ -69,6 +75,7 @@ impl Station {
             },
             office: None,
             since_image: 0,
+            life: Life::default(),
             rule,
             accepted: Vec::new(),
             later: Vec::new(),
@@ -136,6 +143,8 @@ impl Station {
         if reply.answer() == 0 {
             self.office = Some(Kept {
                 image,
+                flash: self.flash.clone(),
+                life: self.life,
                 rule: self.rule.clone(),
                 accepted: self.accepted.clone(),
             });
@@ -167,6 +176,24 @@ impl Station {
         station.keep();
         *self = station;
         Some(said.answer)
+    }
+
+    /// Own adds since the last image; none if there is no image.
+    pub fn own_adds_since_image(&self) -> Option<u64> {
+        let own_adds = |state: &State| state.base(state.actor());
+        let then = own_adds(&self.office.as_ref()?.flash.state);
+        Some(own_adds(self.state()).saturating_sub(then))
+    }
+
+    /// The box comes back as it was at its last image, under its own actor.
+    pub fn put_back(&mut self, fill: u8, back: u64) {
+        if let Some(kept) = self.office.take() {
+            self.flash = kept.flash;
+            self.life = kept.life;
+            self.rule = kept.rule;
+            self.accepted = kept.accepted;
+            self.lose_power(fill, back);
+        }
     }
 
     /// Whether working memory is what was kept.
@@ -202,6 +229,12 @@ impl Station {
             self.accepted.resize(number + 1, false);
         }
         self.accepted[number] = true;
+    }
+
+    /// The numbers of the messages that were accepted.
+    pub fn accepted(&self) -> Vec<usize> {
+        let numbers = 0..self.accepted.len();
+        numbers.filter(|number| self.accepted[*number]).collect()
     }
 
     pub fn has_accepted(&self, number: usize) -> bool {

@@ -22,6 +22,11 @@ pub struct Swap {
     taken: usize,
 }
 
+/// The boxes that may fail; that of the gas springs and that of the goods-in desk do not.
+pub fn may_die() -> impl Iterator<Item = usize> {
+    (0..BOXES).filter(|at| ![SPRING_BOX, GOODS_IN].contains(at))
+}
+
 impl Floor<'_> {
     /// Each box that has power writes an image for the office, if it is time to.
     pub fn write_images(&mut self) {
@@ -39,17 +44,18 @@ impl Floor<'_> {
         }
     }
 
-    /// The box dies that has written the most messages since its image; that of the gas springs and
-    /// that of the goods-in desk do not.
+    /// The box dies that has written the most messages since its image.
     pub fn swap(&mut self) {
-        let boxes = (0..BOXES).filter(|at| ![SPRING_BOX, GOODS_IN].contains(at));
-        let swaps = boxes.filter_map(|at| self.swap_of(at));
+        let swaps = may_die().filter_map(|at| self.swap_of(at));
         let Some(swap) = swaps.max_by_key(|swap| swap.written) else {
             return;
         };
         let at = swap.at;
         match self.stations[at].swap(self.engine, SPARE) {
-            Some(0) => self.swapped = Some(swap),
+            Some(0) => {
+                self.note_load(at);
+                self.swapped.push(swap);
+            }
             Some(answer) => self.fault(at, format!("answers {answer} to the load of an image")),
             None => {}
         }
@@ -72,27 +78,36 @@ impl Floor<'_> {
         })
     }
 
-    /// What became of the box that died, in words.
-    pub fn swap_told(&self) -> String {
-        let Some(swap) = self.swapped else {
-            return "No box died.".into();
-        };
+    /// What became of the boxes that died, in words.
+    pub fn swaps_told(&self) -> String {
+        let swaps = self.swapped.iter().enumerate();
+        let told: Vec<String> = swaps.map(|(n, swap)| self.swap_told(swap, n > 0)).collect();
+        match told.is_empty() {
+            true => "No box died.".into(),
+            false => told.join("\n"),
+        }
+    }
+
+    fn swap_told(&self, swap: &Swap, again: bool) -> String {
         let Swap {
             at,
             age,
             written,
             taken,
-        } = swap;
+        } = *swap;
+        let (new, whose) = match again {
+            true => ("Another one", "the spare one\nhas"),
+            false => ("The spare one", "no box had\nused"),
+        };
         let end = match self.agreeing()[at] {
             true => "agrees with all",
             false => "DISAGREES",
         };
         let number = at + 1;
         format!(
-            "At noon box {number} died, and its flash with it. The spare one took its place as actor \
-             {SPARE}, which no box\nhad used: it loaded the last image of box {number}, {age} calls old. \
-             The {written} messages that box {number} had\nwritten since and {taken} that it had taken in \
-             came to the new one again, from others or the office; at the\nend it {end}."
+            "At noon box {number} died, and its flash with it. {new} took its place as actor {SPARE}, which {whose}: it \
+             loaded the last image of box {number}, {age} calls old. The {written} messages that box {number} had written since\n\
+             and {taken} that it had taken in came to the new one again, from others or the office; at the end it {end}."
         )
     }
 }

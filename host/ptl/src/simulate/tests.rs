@@ -2,11 +2,12 @@
 
 use super::floor::Floor;
 use super::goods::{label, part_and_bin, Bin, BINS, BOXES};
+use super::premise::{Broken, Clause, Life, Premise};
 use super::radio::{Cargo, Letter, Radio};
 use super::station::Station;
 use super::tally::Tally;
 use super::weather::Weather;
-use super::{simulate, Options};
+use super::{simulate, Breach, Options};
 use crate::engine::{Engine, Fault, Faulty, Product};
 use crate::random::Random;
 use crate::script::Command;
@@ -21,6 +22,7 @@ fn run(engine: &dyn Engine, seed: u64, quiet: bool) -> (u8, String) {
         seed,
         svg: None,
         quiet,
+        breach: Breach::default(),
     };
     let status = crate::status(&simulate(engine, &options, &mut report));
     (status, String::from_utf8(report).expect("ASCII"))
@@ -211,6 +213,130 @@ fn a_box_is_swapped_from_its_last_image() {
     assert_eq!(listed(&floor, 6), listed(&floor, 2));
     floor.hold(6);
     assert_eq!(floor.new_faults(), Vec::<String>::new());
+    let line = floor.premise.line();
+    let counts = "loads 1 and accepted calls 9 (goesOn), own adds 4 (made-once), \
+                  accepted adds from elsewhere 5 (unforged).";
+    assert!(line.contains(counts), "{line}");
+}
+
+/// What a step broke, if anything: the clause.
+fn clause(broken: Option<Broken>) -> Option<Clause> {
+    broken.map(|broken| broken.clause)
+}
+
+#[test]
+fn an_actor_that_was_given_out_breaks_a_clause() {
+    let (mut premise, mut life) = (Premise::default(), Life::default());
+    assert_eq!(clause(premise.sets_up(1, &mut life)), None);
+    assert_eq!(clause(premise.sets_up(2, &mut life)), None);
+    assert_eq!(clause(premise.loads(3, &mut life)), None);
+    for actor in [1, 2, 3] {
+        let step = premise.sets_up(actor, &mut life);
+        assert_eq!(clause(step), Some(Clause::SetsUp));
+        let step = premise.loads(actor, &mut life);
+        assert_eq!(clause(step), Some(Clause::GoesOn));
+    }
+}
+
+#[test]
+fn a_call_from_an_earlier_state_breaks_a_clause() {
+    let (mut premise, mut life) = (Premise::default(), Life::default());
+    assert_eq!(clause(premise.sets_up(1, &mut life)), None);
+    let mut earlier = life;
+    assert_eq!(clause(premise.goes_on(1, &mut life)), None);
+    assert_eq!(clause(premise.goes_on(1, &mut life)), None);
+    // Loaded under an actor of its own it goes on, and the writer too.
+    let mut loaded = earlier;
+    assert_eq!(clause(premise.loads(2, &mut loaded)), None);
+    assert_eq!(clause(premise.goes_on(2, &mut loaded)), None);
+    assert_eq!(clause(premise.goes_on(1, &mut life)), None);
+    let step = premise.goes_on(1, &mut earlier);
+    assert_eq!(clause(step), Some(Clause::GoesOn));
+    let step = premise.goes_on(3, &mut life);
+    assert_eq!(clause(step), Some(Clause::GoesOn));
+}
+
+#[test]
+fn a_dot_with_two_labels_and_an_add_that_nobody_wrote_break_a_clause() {
+    let mut premise = Premise::default();
+    let pair = |label: &str, counter| {
+        let dot = reference::Dot::new(1, counter).expect("a dot");
+        (label.as_bytes().to_vec(), dot)
+    };
+    let forged = |premise: &mut Premise, pair| clause(premise.takes_in(&pair));
+    assert_eq!(
+        forged(&mut premise, pair("BOLT@B1", 1)),
+        Some(Clause::Unforged)
+    );
+    assert_eq!(clause(premise.own_add(&pair("BOLT@B1", 1))), None);
+    assert_eq!(clause(premise.own_add(&pair("BOLT@B1", 2))), None);
+    assert_eq!(forged(&mut premise, pair("BOLT@B1", 1)), None);
+    assert_eq!(
+        forged(&mut premise, pair("NUT@B2", 1)),
+        Some(Clause::Unforged)
+    );
+    // The same label once more is no other label.
+    assert_eq!(clause(premise.own_add(&pair("BOLT@B1", 1))), None);
+    let step = premise.own_add(&pair("NUT@B2", 1));
+    assert_eq!(clause(step), Some(Clause::MadeOnce));
+    assert_eq!(forged(&mut premise, pair("NUT@B2", 1)), None);
+}
+
+/// A box that is none of the workshop writes a message, and one of the workshop takes it in.
+#[test]
+fn a_forged_add_is_told() {
+    let mut floor = Floor::new(&Product, 1);
+    let (mut stranger, _) = Station::set_up(&Product, 9);
+    let message = stranger.call(&Product, &add("BOLT@B1", &[])).message;
+    floor.act(3, &Command::Take { message });
+    let what = "PREMISE BROKEN: seed 1, call 1 (set-up), box 4: unforged: it accepts \
+                BOLT@B1 (dot 9:1), which no box had written";
+    assert_eq!(floor.new_faults(), [what]);
+    assert!(!floor.premise.holds());
+}
+
+/// Half of the calls are lost in a power cut before they are kept. Their messages were never sent, and
+/// their dots go to the labels after them.
+#[test]
+fn calls_that_were_not_kept_break_no_clause() {
+    let mut floor = Floor::new(&Product, 1);
+    floor.weather = Weather {
+        cuts: 10_000,
+        ..Weather::STILL
+    };
+    let mut put = |number: usize| {
+        floor.power_up();
+        floor.own(3, &add(&format!("BOLT@B{number}"), &[]))
+    };
+    let kept = (0..40).filter(|number| put(*number)).count();
+    assert!((10..30).contains(&kept), "{kept}");
+    assert_eq!(floor.posted.len(), kept);
+    assert_eq!(floor.new_faults(), Vec::<String>::new());
+    let line = floor.premise.line();
+    assert!(line.starts_with("The premise held at every step. "));
+    assert!(line.contains(&format!(", own adds {kept} (made-once), ")));
+}
+
+/// Of a box with two own adds since its image, which then makes another.
+#[test]
+fn a_box_that_is_put_back_breaks_the_premise() {
+    let mut floor = Floor::new(&Product, 1);
+    assert!(floor.own(6, &add("BOLT@B1", &[])));
+    assert_eq!(floor.stations[6].write_image(&Product), 0);
+    for label in ["NUT@B2", "PIN@B3"] {
+        assert!(floor.own(6, &add(label, &[])));
+    }
+    assert_eq!(floor.stations[6].own_adds_since_image(), Some(2));
+    floor.stations[6].put_back(0xff, floor.tick);
+    let listed = floor.stations[6].listing(&Product).map(labels);
+    assert_eq!(listed, Some(vec!["BOLT@B1".into()]));
+    assert!(floor.own(6, &add("CAP@B4", &[])));
+    let told = [
+        "goesOn: it goes on from another state than the last under actor 7",
+        "made-once: it writes CAP@B4 (dot 7:2), and NUT@B2 (dot 7:2) was written before",
+    ];
+    let told = told.map(|what| format!("PREMISE BROKEN: seed 1, call 4 (set-up), box 7: {what}"));
+    assert_eq!(floor.new_faults(), told);
 }
 
 /// The box that died at noon, by the report of a day.
@@ -243,6 +369,10 @@ fn a_swap_under_the_dead_boxs_actor_is_told() {
         lines.iter().filter(|line| told(line)).count() > 1,
         "{lines:?}"
     );
+    for clause in ["goesOn", "made-once"] {
+        let told = format!("box {}: {clause}: it ", dead_box(&report));
+        assert!(report.contains(&told), "{report}");
+    }
 }
 
 #[test]

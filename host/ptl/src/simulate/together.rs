@@ -2,6 +2,7 @@
 //! stands that one of them knows to be gone, and what only one of them has heard of does. Each is
 //! held to the rule of what either has accepted by then.
 
+use super::agreement::labels_of;
 use super::floor::Floor;
 use super::goods::{BOXES, SPRING_BIN};
 use super::hold::differs;
@@ -131,8 +132,7 @@ impl Floor<'_> {
 }
 
 fn labels(listing: Option<&Listing>) -> BTreeSet<Vec<u8>> {
-    let entries = listing.map_or(Vec::new(), Listing::entries);
-    entries.into_iter().map(|entry| entry.label.0).collect()
+    labels_of(&listing.map_or(Vec::new(), Listing::entries))
 }
 
 /// What is new to either box, and what is gone by what one of them knows; none if one of these is
