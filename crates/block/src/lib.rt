@@ -1,4 +1,7 @@
 // A state as a block of bytes, every field at its full width and place, and back: how a state crosses the C interface.
+
+#![tactic(auto)]
+
 ghost use Rattle.std.specs.Prelude.{◌≡◌, [], ◌∷◌, ◌++◌, ◌+◌, ◌*◌, ◌≤◌, length};
 ghost use Rattle.wire.specs.Loans.{after};
 ghost use Rattle.wire.specs.Bytes.{big_endian};

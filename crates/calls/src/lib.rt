@@ -1,21 +1,24 @@
 // The calls of a controller as definitions, in specs/, with demand 3 about them; here the state and what a call gives.
 
+#![tactic(auto)]
+
+
 // A set name: its first len bytes; the others are 0.
-#[derive(Drop)]
+#[derive(Clone, Copy)]
 pub struct SetName {
     pub bytes: [u8; dots::NAME_MOST],
     pub len: usize,
 }
 
 // The tombstone: its first count dots, nine bytes each; the other bytes are 0.
-#[derive(Drop)]
+#[derive(Clone, Copy)]
 pub struct Tombstone {
     pub bytes: [u8; dots::TOMBSTONE_SIZE],
     pub count: usize,
 }
 
 // What a controller holds, but for the store, which is lent to each call.
-#[derive(Drop)]
+#[derive(Clone, Copy)]
 pub struct State {
     pub name: SetName,
     pub clock: clock::Clock,
@@ -25,7 +28,7 @@ pub struct State {
 }
 
 // A state beside the arrays of its clock and its tombstone: these are lent where a state by value would be copied.
-#[derive(Drop)]
+#[derive(Clone, Copy)]
 pub struct Head {
     pub name: SetName,
     pub count: usize,
@@ -34,14 +37,14 @@ pub struct Head {
 }
 
 // What set-up gives.
-#[derive(Drop)]
+#[derive(Clone, Copy)]
 pub struct SetUp {
     pub answer: dots::Answer,
     pub state: State,
 }
 
 // What a call gives that may change the state: the answer, the new state, and how many bytes were put out.
-#[derive(Drop)]
+#[derive(Clone, Copy)]
 pub struct Outcome {
     pub answer: dots::Answer,
     pub state: State,
@@ -49,7 +52,7 @@ pub struct Outcome {
 }
 
 // What listing gives: the answer, how many bytes were put out, and how many labels they list.
-#[derive(Drop)]
+#[derive(Clone, Copy)]
 pub struct Listed {
     pub answer: dots::Answer,
     pub written: usize,
@@ -57,7 +60,7 @@ pub struct Listed {
 }
 
 // What a page gives: the answer, how many bytes were put out, how many labels they list, and whether more follow.
-#[derive(Drop)]
+#[derive(Clone, Copy)]
 pub struct Paged {
     pub answer: dots::Answer,
     pub written: usize,
@@ -66,7 +69,7 @@ pub struct Paged {
 }
 
 // Where the fields of a hand-off image lie: set name, writer's actor, rows, number of dots in the tombstone, its dots, keys.
-#[derive(Drop)]
+#[derive(Clone, Copy)]
 pub struct ImageLayout {
     pub name: wire::Span,
     pub actor: usize,

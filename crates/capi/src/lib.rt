@@ -1,4 +1,7 @@
 // The C interface: the calls of the controller on a state that crosses as a block of bytes.
+
+#![tactic(auto)]
+
 ghost use Rattle.std.specs.Prelude.{◌≡◌};
 ghost use Rattle.wire.specs.Loans.{after};
 ghost use Rattle.capi.specs.Left.{take_in_left, compact_left, load_left};
@@ -8,8 +11,7 @@ ghost use Rattle.capi.specs.Promise.{interface_version, SetsUp, OwnAdds, OwnRemo
 const VERSION: u32 = 402;
 
 // Tells the version of the interface.
-#[unsafe(no_mangle)]
-pub extern "C" fn ptl_version() -> u32
+pub fn ptl_version() -> u32
     ensures { result ≡ interface_version }
 {
     VERSION
@@ -18,8 +20,7 @@ pub extern "C" fn ptl_version() -> u32
 // ---- the calls of the controller
 
 // Sets a controller up. A refused set-up leaves a block of zeros.
-#[unsafe(no_mangle)]
-pub extern "C" fn ptl_set_up(actor: u8, name: &[u8], state: &mut [u8]) -> u8
+pub fn ptl_set_up(actor: u8, name: &[u8], state: &mut [u8]) -> u8
     ensures { SetsUp actor name.now state.old state.new result }
 {
     if state.len() != block::STATE_SIZE {
@@ -33,8 +34,7 @@ pub extern "C" fn ptl_set_up(actor: u8, name: &[u8], state: &mut [u8]) -> u8
 }
 
 // Adds a label under a new dot of this controller, and removes a context. Writes the add message.
-#[unsafe(no_mangle)]
-pub extern "C" fn ptl_own_add(
+pub fn ptl_own_add(
     state: &mut [u8],
     store: &mut [u8],
     label: &[u8],
@@ -57,8 +57,7 @@ pub extern "C" fn ptl_own_add(
 }
 
 // Removes a context. Writes the remove message.
-#[unsafe(no_mangle)]
-pub extern "C" fn ptl_own_remove(
+pub fn ptl_own_remove(
     state: &mut [u8],
     store: &[u8],
     context: &[u8],
@@ -80,8 +79,7 @@ pub extern "C" fn ptl_own_remove(
 }
 
 // Takes a message in.
-#[unsafe(no_mangle)]
-pub extern "C" fn ptl_take_in(state: &mut [u8], store: &mut [u8], message: &[u8]) -> u8
+pub fn ptl_take_in(state: &mut [u8], store: &mut [u8], message: &[u8]) -> u8
     ensures { Changes (take_in_left state.old store.old message.now) state.new store.new result }
 {
     if state.len() != block::STATE_SIZE {
@@ -95,8 +93,7 @@ pub extern "C" fn ptl_take_in(state: &mut [u8], store: &mut [u8], message: &[u8]
 }
 
 // Lists the labels.
-#[unsafe(no_mangle)]
-pub extern "C" fn ptl_list(
+pub fn ptl_list(
     state: &[u8],
     store: &[u8],
     out: &mut [u8],
@@ -118,8 +115,7 @@ pub extern "C" fn ptl_list(
 }
 
 // Lists the labels after a starting one, as many as fit, and tells whether more follow.
-#[unsafe(no_mangle)]
-pub extern "C" fn ptl_page(
+pub fn ptl_page(
     state: &[u8],
     store: &[u8],
     start: &[u8],
@@ -145,8 +141,7 @@ pub extern "C" fn ptl_page(
 }
 
 // Lists the labels of two controllers as one.
-#[unsafe(no_mangle)]
-pub extern "C" fn ptl_merge<'a>(
+pub fn ptl_merge<'a>(
     first: &[u8],
     first_store: &'a [u8],
     second: &[u8],
@@ -174,8 +169,7 @@ pub extern "C" fn ptl_merge<'a>(
 }
 
 // Looks a label up: hands back the stretch of the lent store that holds its keys, and whether the listing has it.
-#[unsafe(no_mangle)]
-pub extern "C" fn ptl_lookup<'a>(
+pub fn ptl_lookup<'a>(
     state: &[u8],
     store: &'a [u8],
     label: &[u8],
@@ -195,8 +189,7 @@ pub extern "C" fn ptl_lookup<'a>(
 }
 
 // Drops the keys whose dots are in the tombstone, and empties it. With no dots there the block stays as it is.
-#[unsafe(no_mangle)]
-pub extern "C" fn ptl_compact(state: &mut [u8], store: &mut [u8]) -> u8
+pub fn ptl_compact(state: &mut [u8], store: &mut [u8]) -> u8
     ensures { Changes (compact_left state.old store.old) state.new store.new result }
 {
     if state.len() != block::STATE_SIZE {
@@ -218,8 +211,7 @@ pub extern "C" fn ptl_compact(state: &mut [u8], store: &mut [u8]) -> u8
 // ---- hand-off images
 
 // Writes a hand-off image.
-#[unsafe(no_mangle)]
-pub extern "C" fn ptl_write_image(
+pub fn ptl_write_image(
     state: &[u8],
     store: &[u8],
     out: &mut [u8],
@@ -238,8 +230,7 @@ pub extern "C" fn ptl_write_image(
 }
 
 // Loads a hand-off image under an actor. A refused load leaves a block of zeros.
-#[unsafe(no_mangle)]
-pub extern "C" fn ptl_load_image(actor: u8, image: &[u8], state: &mut [u8], store: &mut [u8]) -> u8
+pub fn ptl_load_image(actor: u8, image: &[u8], state: &mut [u8], store: &mut [u8]) -> u8
     ensures { Changes (load_left actor image.now state.old store.old) state.new store.new result }
 {
     if state.len() != block::STATE_SIZE {
@@ -255,8 +246,7 @@ pub extern "C" fn ptl_load_image(actor: u8, image: &[u8], state: &mut [u8], stor
 // ---- keys and messages
 
 // Writes a key of the type of a type byte. A field that the type lacks is not looked at.
-#[unsafe(no_mangle)]
-pub extern "C" fn ptl_write_key(
+pub fn ptl_write_key(
     kind: u8,
     name: &[u8],
     label: &[u8],
@@ -280,8 +270,7 @@ pub extern "C" fn ptl_write_key(
 }
 
 // Reads a key.
-#[unsafe(no_mangle)]
-pub extern "C" fn ptl_read_key(
+pub fn ptl_read_key(
     bytes: &[u8],
     kind: &mut u8,
     name_at: &mut usize,
@@ -306,8 +295,7 @@ pub extern "C" fn ptl_read_key(
 }
 
 // Reads a message.
-#[unsafe(no_mangle)]
-pub extern "C" fn ptl_read_message(
+pub fn ptl_read_message(
     bytes: &[u8],
     kind: &mut u8,
     name_at: &mut usize,

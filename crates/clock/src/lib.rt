@@ -1,4 +1,7 @@
 // The clock: which events of each of 16 actors were seen. A row by value for one actor; the whole clock flat in 32 words.
+
+#![tactic(auto)]
+
 ghost use Rattle.std.specs.Prelude.{◌≡◌, ◌+◌, ◌<◌, ◌≤◌, true, ◌∷◌};
 ghost use Rattle.wire.specs.Loans.{after};
 ghost use Rattle.dots.specs.Dots.{max_counter, actor_most, actor_of, dot_of};
@@ -23,13 +26,13 @@ pub const CLOCK_WORDS: usize = dots::ACTOR_MOST as usize * ROW_WORDS;
 pub type Words = [u64; CLOCK_WORDS];
 
 // The clock: base and window of actor 1, those of actor 2, and so on.
-#[derive(Drop)]
+#[derive(Clone, Copy)]
 pub struct Clock {
     pub words: Words,
 }
 
 // Events 1 to base are seen. Bit i of the window says that event base + 1 + i is seen.
-#[derive(Drop)]
+#[derive(Clone, Copy)]
 pub struct Row {
     pub base: u64,
     pub window: u64,
@@ -113,7 +116,7 @@ fn row_join(row: Row, counter: u64) -> Row
 // ---- the clock of 16 rows
 
 // All dots so far are in reach, and the row of the last one's actor with them.
-#[derive(Drop)]
+#[derive(Clone, Copy)]
 pub struct Reach {
     pub ok: bool,
     pub actor: dots::Actor,

@@ -1,4 +1,7 @@
 // Compaction of keys end to end, in place and in one pass: runs of kept keys move down over the keys that are dropped.
+
+#![tactic(auto)]
+
 ghost use Rattle.std.specs.Prelude.{◌≡◌, true, ◌≤◌, length};
 ghost use Rattle.wire.specs.Loans.{after};
 ghost use Rattle.dots.specs.Names.{name_most};
@@ -7,7 +10,7 @@ ghost use Rattle.compaction.specs.Compaction.{is_in, is_among, CanCompact, Drops
 ghost use Rattle.compaction.specs.Runs.{RunFits, MovesRun, KeyFits, DotsSlotted, WalksKey};
 
 // A run of kept keys: where it begins and ends, and where it goes.
-#[derive(Drop)]
+#[derive(Clone, Copy)]
 struct Run {
     from: usize,
     end: usize,

@@ -1,5 +1,8 @@
 // The console: reads commands from standard input, one to a line, carries them out on sixteen controllers, and writes a line for each.
 // It is the console of the command `ptl`, line for line, over the same interface.
+
+#![tactic(auto)]
+
 mod bench;
 mod commands;
 mod formats;

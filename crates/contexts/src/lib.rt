@@ -1,4 +1,7 @@
 // Lists of dots in bytes, nine each: their rule, a dot among them, a dot put in its place.
+
+#![tactic(auto)]
+
 ghost use Rattle.std.specs.Prelude.{◌≡◌, true, ◌*◌, ◌≤◌, length};
 ghost use Rattle.wire.specs.Loans.{before};
 ghost use Rattle.wire.specs.Lists.{member};

@@ -1,4 +1,7 @@
 // Set-up and compaction.
+
+#![tactic(auto)]
+
 ghost use Rattle.std.specs.Prelude.{◌≡◌, false, [], ◌≤◌, length};
 ghost use Rattle.dots.specs.Names.{name_most};
 ghost use Rattle.calls.specs.Damage.{damaged as isDamaged};

@@ -1,4 +1,7 @@
 // CRC-32 of bytes, a byte at a time by the table.
+
+#![tactic(auto)]
+
 ghost use Rattle.std.specs.Prelude.{◌≡◌};
 ghost use Rattle.crc.specs.Crc.{byte_step, crc_of, crc_table};
 

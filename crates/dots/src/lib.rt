@@ -1,4 +1,7 @@
 // Dots, contexts, names and answers: the terms that keys, messages, clock and calls share.
+
+#![tactic(auto)]
+
 ghost use Rattle.std.specs.Prelude.{◌≡◌, cond, ◌+◌, ◌≤◌, length};
 ghost use Rattle.std.proofs.Math.Dec.{compare_is_eq};
 ghost use Rattle.wire.specs.Loans.{before};
@@ -32,7 +35,7 @@ pub const TOMBSTONE_SIZE: usize = TOMBSTONE_MOST * DOT_SIZE;
 // ---- answers
 
 // The answers of the table, in its order.
-#[derive(Drop)]
+#[derive(Clone, Copy)]
 pub enum Answer {
     Done,
     Damaged,
@@ -132,19 +135,19 @@ pub fn label_prints(label: &[u8]) -> bool
 // ---- dots
 
 // The number of a controller, 1 to 16.
-#[derive(Drop)]
+#[derive(Clone, Copy)]
 pub struct Actor {
     pub number: u8,
 }
 
 // The number of an event of one actor, 1 and up.
-#[derive(Drop)]
+#[derive(Clone, Copy)]
 pub struct Counter {
     pub number: u64,
 }
 
 // An event: its actor and its number there.
-#[derive(Drop)]
+#[derive(Clone, Copy)]
 pub struct Dot {
     pub actor: Actor,
     pub counter: Counter,

@@ -1,4 +1,7 @@
 // The hand-off image: a controller's state and keys in bytes, written, and loaded by the box that takes a dead one's place.
+
+#![tactic(auto)]
+
 ghost use Rattle.std.specs.Prelude.{◌≡◌, ◌+◌, ◌*◌, ◌≤◌, ◌<◌, ◌^◌, length, take};
 ghost use Rattle.wire.specs.Loans.{before, after};
 ghost use Rattle.wire.specs.Bytes.{byte_at, big_endian, put_at, end_of, part_of};
@@ -40,7 +43,7 @@ pub const IMAGE_FIXED: usize = messages::REMOVE_FIXED + 1 + ROWS_SIZE + USED_SIZ
 // ---- writing
 
 // What writing an image gives: the answer, and how many bytes were put out.
-#[derive(Drop)]
+#[derive(Clone, Copy)]
 pub struct ImageWritten {
     pub answer: dots::Answer,
     pub written: usize,

@@ -1,4 +1,7 @@
 // Taking a message in: one that another controller of the set wrote, or the same.
+
+#![tactic(auto)]
+
 ghost use Rattle.std.specs.Prelude.{◌≡◌, [], length};
 ghost use Rattle.wire.specs.Loans.{after};
 ghost use Rattle.dots.specs.Answer.{first_of};

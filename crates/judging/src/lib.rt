@@ -1,4 +1,7 @@
 // Judging a state and its store: refusal 1, and in the same pass where the keys of a label can stand.
+
+#![tactic(auto)]
+
 ghost use Rattle.std.specs.Prelude.{◌≡◌, true, ◌≤◌, eqb, length, take};
 ghost use Rattle.wire.specs.Loans.{before};
 ghost use Rattle.wire.specs.Lists.{all};

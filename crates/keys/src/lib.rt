@@ -1,4 +1,7 @@
 // Keys in bytes: the four types of document 01, written and read.
+
+#![tactic(auto)]
+
 ghost use Rattle.std.specs.Prelude.{◌≡◌, true, cond, [], ◌+◌, ◌≤◌, length, drop};
 ghost use Rattle.wire.specs.Loans.{before, after};
 ghost use Rattle.wire.specs.Bytes.{byte_at, number_at, span, put_at};
@@ -17,7 +20,7 @@ pub const SUFFIX_SIZE: usize = 11;
 pub const LABEL_KEY_FIXED: usize = PREFIX_FIXED + SUFFIX_SIZE;
 
 // The type of a key: clock, tombstone, label or end.
-#[derive(Drop)]
+#[derive(Clone, Copy)]
 pub enum KeyKind {
     ClockKey,
     TombstoneKey,
@@ -26,14 +29,14 @@ pub enum KeyKind {
 }
 
 // The answer to writing a key, and how many bytes were written.
-#[derive(Drop)]
+#[derive(Clone, Copy)]
 pub struct KeyWritten {
     pub answer: dots::Answer,
     pub written: usize,
 }
 
 // A key as it was read: its type byte as kind, where name and label stand, actor and counter; in a refusal all are 0.
-#[derive(Drop)]
+#[derive(Clone, Copy)]
 pub struct KeyRead {
     pub answer: dots::Answer,
     pub kind: u8,

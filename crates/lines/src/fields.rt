@@ -5,7 +5,7 @@ use crate::limits::{ARGUMENTS_MAX, BUFFER_MAX, OUT_MAX, ROWS, SLOT_LAST};
 use crate::{parts, why};
 
 // What reading a field gave: why it breaks its form, or 0; the number that it is, or the place in the arguments after its bytes.
-#[derive(Drop)]
+#[derive(Clone, Copy)]
 pub struct Read {
     pub why: u8,
     pub value: usize,
@@ -150,7 +150,7 @@ fn behind<'a>(kind: u8, rest: &'a [u8]) -> &'a [u8]
 }
 
 // A field on its way into the arguments: why it breaks its form, or 0; the place after its bytes; the place in the field that is reached.
-#[derive(Drop)]
+#[derive(Clone, Copy)]
 struct Taken {
     why: u8,
     end: usize,

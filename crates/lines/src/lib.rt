@@ -1,4 +1,7 @@
 // The lines of the console: reading them, and printing the fields of the lines that answer them.
+
+#![tactic(auto)]
+
 pub mod fields;
 pub mod limits;
 pub mod parse;

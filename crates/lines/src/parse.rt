@@ -59,7 +59,7 @@ pub const BYTE: u8 = b'Y';
 // A line: why it breaks the form, or 0, and in which field, or 0 for the whole line; its controller and its command; how many bytes of the
 // arguments its fields have. Of the first, the second and the last field the number, or the place in the arguments after its bytes; where a
 // command has an output, the last is its length.
-#[derive(Drop)]
+#[derive(Clone, Copy)]
 pub struct Line {
     pub why: u8,
     pub field: usize,

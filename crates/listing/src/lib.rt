@@ -1,4 +1,7 @@
 // The listing of a label store: the line at a place, lines put out, and whether a stretch has a live key.
+
+#![tactic(auto)]
+
 ghost use Rattle.std.specs.Prelude.{◌≡◌, true, ◌+◌, ◌-◌, ◌^◌, ◌≤◌, ◌<◌, length};
 ghost use Rattle.wire.specs.Loans.{before, after};
 ghost use Rattle.wire.specs.Lists.{any};
@@ -19,7 +22,7 @@ pub const LINE_FIXED: usize = 3;
 // ---- keys
 
 // A key of a walk over keys: where it ends, and whether its dot is not in the tombstone.
-#[derive(Drop)]
+#[derive(Clone, Copy)]
 struct ListedKey {
     end: usize,
     live: bool,
@@ -59,7 +62,7 @@ pub fn any_live(n: usize, keys: &[u8], tombstone: &[u8]) -> bool
 // ---- the line at a place
 
 // A line at the front of keys: how long its label is, where its keys end, how many of its dots are listed, and whether all are.
-#[derive(Drop)]
+#[derive(Clone, Copy)]
 struct ListedLine {
     len: usize,
     end: usize,
@@ -267,7 +270,7 @@ fn put_listed(
 }
 
 // What lines put out take: their bytes, how many they are, and whether more follow.
-#[derive(Drop)]
+#[derive(Clone, Copy)]
 pub struct LinesPut {
     pub bytes: usize,
     pub labels: usize,

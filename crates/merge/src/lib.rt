@@ -1,4 +1,7 @@
 // Two stores of one set walked side by side: one listing from two controllers.
+
+#![tactic(auto)]
+
 ghost use Rattle.std.specs.Prelude.{◌≡◌, true, false, cond, ◌&&◌, [], ◌+◌, ◌-◌, ◌*◌, ◌^◌, ◌≤◌, ◌<◌, length, take};
 ghost use Rattle.wire.specs.Loans.{after};
 ghost use Rattle.wire.specs.Lists.{cons_if};
@@ -56,7 +59,7 @@ fn label_run(n: usize, keys: &[u8], start: &[u8]) -> usize
 }
 
 // The keys of the label that comes next: how long the label is, and how many bytes they take at the front of each store.
-#[derive(Drop)]
+#[derive(Clone, Copy)]
 struct NextLabel {
     len: usize,
     first: usize,
@@ -101,7 +104,7 @@ fn first_dot(size: usize, keys: &[u8]) -> dots::Dot
 }
 
 // The dot that comes next among the keys of a label in two stores, and which of them hold it.
-#[derive(Drop)]
+#[derive(Clone, Copy)]
 struct NextDot {
     dot: dots::Dot,
     first: bool,
@@ -205,7 +208,7 @@ fn put_dot(kept: bool, dry: bool, out: &mut [u8], at: usize, dot: dots::Dot) -> 
 // ---- its line
 
 // Where a line goes: the lengths of the set's name, of the label and of the first tombstone, its place in the output, and whether the run is dry.
-#[derive(Drop)]
+#[derive(Clone, Copy)]
 struct Spot {
     n: usize,
     len: usize,
@@ -292,7 +295,7 @@ fn put_line<'a>(
 // ---- all lines
 
 // A run over two stores: the lengths of the set's name and of the first tombstone, and whether it is dry.
-#[derive(Drop)]
+#[derive(Clone, Copy)]
 struct Run {
     n: usize,
     split: usize,

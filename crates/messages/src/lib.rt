@@ -1,4 +1,7 @@
 // Messages in bytes: read into answer and places of the fields, and written.
+
+#![tactic(auto)]
+
 ghost use Rattle.std.specs.Prelude.{◌≡◌, ◌∷◌, ◌+◌, ◌≤◌, ◌<◌, length};
 ghost use Rattle.wire.specs.Bytes.{put_at};
 ghost use Rattle.dots.specs.Answer.{first_of};
@@ -16,7 +19,7 @@ pub const REMOVE_FIXED: usize = 8;
 pub const ADD_FIXED: usize = REMOVE_FIXED + 1 + dots::DOT_SIZE;
 
 // Where the fields of a message are: kind byte, name, label, the own dot's place, the context.
-#[derive(Drop)]
+#[derive(Clone, Copy)]
 pub struct Layout {
     pub kind: u8,
     pub name: wire::Span,
@@ -26,7 +29,7 @@ pub struct Layout {
 }
 
 // A message as it was read: its kind byte, where name, label and context stand, and an add's dot; in a refusal all are 0.
-#[derive(Drop)]
+#[derive(Clone, Copy)]
 pub struct MessageRead {
     pub answer: dots::Answer,
     pub kind: u8,

@@ -1,4 +1,7 @@
 // Bytes written and moved inside a buffer.
+
+#![tactic(auto)]
+
 ghost use Rattle.std.specs.Prelude.{◌≡◌, ◌++◌, ◌+◌, ◌-◌, ◌≤◌, length, take, drop, replicate};
 ghost use Rattle.wire.specs.Loans.{before, after};
 ghost use Rattle.wire.specs.Bytes.{big_endian, put_at, inserted_at};
@@ -11,7 +14,7 @@ pub fn put(out: &mut [u8], at: usize, src: &[u8]) -> usize
     ensures { (result ≡ at + length src.now) × (out.new ≡ put_at out.old at src.now) }
 {
     let end = at + src.len();
-    bytes::copy(src, &mut out[at..end]);
+    out[at..end].copy_from_slice(src);
     end
 }
 
@@ -75,7 +78,7 @@ fn insert_front(s: &mut [u8], piece: &[u8])
     ensures { s.new ≡ piece.now ++ take (length s.old - length piece.now) s.old }
 {
     shift_up(s, piece.len());
-    bytes::copy(piece, s);
+    s[..piece.len()].copy_from_slice(piece);
 }
 
 // Inserts a piece at a place of the first `used` bytes; what follows it there moves up, and the rest keeps its values.

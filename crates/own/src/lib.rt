@@ -1,4 +1,7 @@
 // The calls that a controller makes of its own: own add and own remove.
+
+#![tactic(auto)]
+
 ghost use Rattle.std.specs.Prelude.{◌≡◌, false, ◌+◌, ◌≤◌, length, take};
 ghost use Rattle.dots.specs.Answer.{first_of};
 ghost use Rattle.dots.specs.Dots.{max_counter, dot_of};

@@ -1,9 +1,12 @@
 // A reader of keys end to end: the lent keys, and a place in them.
+
+#![tactic(auto)]
+
 ghost use Rattle.std.specs.Prelude.{◌≡◌};
 ghost use Rattle.reader.specs.Reading.{key_end};
 
 // "A reader holds the lent store and its place in it": the used part, and where the key that comes next begins.
-#[derive(Drop)]
+#[derive(Clone, Copy)]
 struct Reader<'a> {
     keys: &'a [u8],
     at: usize,

@@ -1,4 +1,7 @@
 // The calls that only read: listing, page, merged read and lookup.
+
+#![tactic(auto)]
+
 ghost use Rattle.std.specs.Prelude.{◌≡◌, false, ◌≤◌, length};
 ghost use Rattle.wire.specs.Loans.{after};
 ghost use Rattle.dots.specs.Answer.{first_of, number_of};

@@ -1,4 +1,7 @@
 // Order of bytes, the first 0 and common starts, several bytes at a time.
+
+#![tactic(auto)]
+
 ghost use Rattle.std.specs.Prelude.{◌≡◌, ◌+◌, ◌≤◌, min, length, take, drop};
 ghost use Rattle.wire.specs.Loans.{before};
 ghost use Rattle.wire.specs.Lists.{is_lt};

@@ -1,4 +1,7 @@
 // Slots: a table that tells most dots that are not in a list at one look. A dot of the list has its slot set; dots share slots.
+
+#![tactic(auto)]
+
 ghost use Rattle.std.specs.Prelude.{◌≡◌, true, ◌<◌, length};
 ghost use Rattle.wire.specs.Lists.{member};
 ghost use Rattle.dots.specs.Dots.{compare_dots, ascending_dots};

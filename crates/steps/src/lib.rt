@@ -1,4 +1,7 @@
 // The steps that calls share: the tests of refusals but for 1, and applying a context or an add.
+
+#![tactic(auto)]
+
 ghost use Rattle.std.specs.Prelude.{◌≡◌, true, not, cond, ◌∷◌, ◌+◌, ◌*◌, ◌≤◌, ltb, length, take};
 ghost use Rattle.std.proofs.Math.Dec.{compare_is_eq};
 ghost use Rattle.wire.specs.Lists.{all, any, member};
@@ -14,7 +17,7 @@ ghost use Rattle.steps.specs.Tests.{ahead_of, joins_tombstone, held_dots, with_d
 ghost use Rattle.calls.specs.Refusals.{bad_context};
 
 // The lengths of the store and of the output that are lent to a call, and whether refusal 1 holds.
-#[derive(Drop)]
+#[derive(Clone, Copy)]
 pub struct Lent {
     pub store: usize,
     pub out: usize,
@@ -22,7 +25,7 @@ pub struct Lent {
 }
 
 // Whether the store has no room for an add's key, and whether the output is shorter than its message.
-#[derive(Drop)]
+#[derive(Clone, Copy)]
 pub struct Room {
     pub crowded: bool,
     pub short: bool,

@@ -1,4 +1,7 @@
 // The label store in a lent buffer: label keys end to end, read, compared and moved as raw bytes.
+
+#![tactic(auto)]
+
 ghost use Rattle.std.specs.Prelude.{◌≡◌, ◌+◌, ◌-◌, ◌<◌, ◌≤◌, true, not, length, take, if◌then◌else◌};
 ghost use Rattle.wire.specs.Loans.{before, after};
 ghost use Rattle.wire.specs.Lists.{is_lt};
@@ -29,7 +32,7 @@ const LABEL_START_MOST: usize = PREFIX_MOST + dots::LABEL_MOST + 1;
 const KEY_MOST: usize = dots::NAME_MOST + dots::LABEL_MOST + keys::LABEL_KEY_FIXED;
 
 // What judging a store gives: damage, or how many bytes at its front come before all keys of the label looked for.
-#[derive(Drop)]
+#[derive(Clone, Copy)]
 pub enum Judgement {
     Damaged,
     Sound(usize),
@@ -37,7 +40,7 @@ pub enum Judgement {
 
 // The bytes of a key from its label on: where they begin and end among the keys, how long the label is, the mark of its closing 00 in the
 // label's first 8 bytes (0 where it is not kept), and the numbers in the first 8 bytes and in the next 4.
-#[derive(Drop)]
+#[derive(Clone, Copy)]
 struct KeyTail {
     from: usize,
     end: usize,
@@ -48,28 +51,28 @@ struct KeyTail {
 }
 
 // What the next key of a pass gives: damage, or its bytes from the label on.
-#[derive(Drop)]
+#[derive(Clone, Copy)]
 enum KeyRead {
     Damaged,
     Sound(KeyTail),
 }
 
 // How long a label is, and the mark of its closing 00 as above.
-#[derive(Drop)]
+#[derive(Clone, Copy)]
 struct LabelEnd {
     len: usize,
     mark: u64,
 }
 
 // What the label at the front of bytes gives: it breaks its rule, or it ends.
-#[derive(Drop)]
+#[derive(Clone, Copy)]
 enum LabelRead {
     Bad,
     Ends(LabelEnd),
 }
 
 // What a set's keys begin with, for comparing up to 8 bytes at once: how long it is, which bits of a word count, and what they are.
-#[derive(Drop)]
+#[derive(Clone, Copy)]
 struct Prefix {
     len: usize,
     mask: u64,

@@ -1,9 +1,12 @@
 // Bytes: the definitions of their order, of numbers in them and of pieces moved inside a buffer; code that reads bytes and numbers.
+
+#![tactic(auto)]
+
 ghost use Rattle.std.specs.Prelude.{◌≡◌, ◌+◌, ◌*◌, ◌^◌, ◌≤◌, ◌<◌, length, get_or};
 ghost use Rattle.wire.specs.Bytes.{byte_at, part_at, number_at, big_endian, from_big_endian, low_number_at, little_endian};
 
 // A stretch of bytes: its first place and its length.
-#[derive(Drop)]
+#[derive(Clone, Copy)]
 pub struct Span {
     pub at: usize,
     pub len: usize,
