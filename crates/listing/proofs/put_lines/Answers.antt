@@ -1,0 +1,46 @@
+use mathlib.Core.Path.{refl}
+use mathlib.Core.Logic.{⊎_elim}
+use Prim.Native.Nat.{◌-◌}
+use borrow.Author.Tests.{not-true, not-false}
+use Rattle.listing.proofs.Folds.{count_fits, part-short, part-stored, part-some, next-within, next-falls, carried, put-start, put-end, labels-fit, bytes_fit, part_room, put_full, put-none, put-more}
+use borrow.Author.Rules.{rules}
+use Rattle.listing.proofs.put_lines.Goals as goal
+
+pub loop-at-init : goal.loop-at-init
+loop-at-init c = search (rules, put-start)
+
+pub line_at-line-requires : goal.line_at-line-requires
+line_at-line-requires c = search (rules, part-short, part-stored, part-some)
+
+pub listed_size-size-requires : goal.listed_size-size-requires
+listed_size-size-requires c = search (rules, count_fits, part-short)
+
+pub returns-then-out-bytes : goal.returns-then-out-bytes
+returns-then-out-bytes c = search (rules, put_full)
+
+pub put_listed-labels-requires : goal.put_listed-labels-requires
+put_listed-labels-requires c = search (rules, part-short, part_room)
+
+pub overflow_add-labels : goal.overflow_add-labels
+overflow_add-labels c = labels-fit _ _ _ _ _ _ _ _ _ c.loop-at.invariant _ c.line_at-line.ensures _ c.listed_size-size.ensures _ c.put_listed-labels.ensures.0 (search rules)
+
+pub overflow_add-bytes : goal.overflow_add-bytes
+overflow_add-bytes c = search (rules, bytes_fit)
+
+pub overflow_add-at : goal.overflow_add-at
+overflow_add-at c = search (rules, next-within)
+
+pub loop-at-smaller : goal.loop-at-smaller
+loop-at-smaller c = search (rules, next-falls)
+
+pub loop-at-preserved : goal.loop-at-preserved
+loop-at-preserved c = let inv = c.loop-at.invariant in
+    let line = c.line_at-line.ensures in
+    let size = c.listed_size-size.ensures in
+    ⊎_elim
+    (λ way. carried _ _ _ _ _ _ _ _ _ _ _ way.6 way.7 (put-more _ _ _ _ _ _ _ _ _ inv _ line _ size c.if-out-bytes.false (not-true _ way.0.taken) _ _ _ way.3.ensures refl))
+    (λ way. carried _ _ _ _ _ _ _ _ _ _ _ way.1 way.2 (put-none _ _ _ _ _ _ _ _ _ inv _ line _ size c.if-out-bytes.false (not-false _ way.0.left)))
+    c.if-not-dry.branch
+
+pub returns : goal.returns
+returns c = search (rules, put-end)

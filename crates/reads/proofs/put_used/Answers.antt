@@ -1,0 +1,12 @@
+-- The tombstone is the front of what is lent, and its slots are set.
+use Prim.Native.Nat.{◌*◌}
+use native.Mathlib.Omega.{arith}
+use Rattle.dots.specs.Wire.{dot_size}
+use Rattle.judging.proofs.Parts.{front-size}
+use Rattle.reads.proofs.put_used.Goals as goal
+
+pub slice_bounds-fill_slots-end : goal.slice_bounds-fill_slots-end
+slice_bounds-fill_slots-end c = let size = c.requires.tomb.size in let few = c.requires.tomb.few in front-size c.args.tombstone.now (c.args.count * dot_size) (omega arith)
+
+pub slice_bounds-put_wanted-end : goal.slice_bounds-put_wanted-end
+slice_bounds-put_wanted-end c = slice-aggregate-fill-slots (goal.at.slice_bounds-put_wanted-end c).After-shared_slice_known-2-1

@@ -1,0 +1,6 @@
+-- Equal words are equal bytes: `same_piece` at 8 bytes.
+use Rattle.search.proofs.Pieces.{same_piece}
+use Rattle.search.proofs.same_word.Goals as goal
+
+pub returns : goal.returns
+returns c = same_piece _ _ (λ k. (c.type_inv.a k).fits) (λ k. (c.type_inv.s k).fits) 8 _ _ _ c.requires.0 c.requires.1 c.low_at.ensures c.low_at-2.ensures
