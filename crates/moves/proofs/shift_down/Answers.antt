@@ -7,11 +7,8 @@ use lib.ListN.{length, take, drop, get_or, set, length-drop}
 use lib.Seq.{append_snoc, set_at, length-take-le, get_or-drop, get_or-append-add, take_all}
 use borrow.Author.Rules.{rules}
 use Rattle.wire.proofs.Parts.{take_step, drop-step}
+use Rattle.moves.proofs.shift_down.Invariants.{moved}
 use Rattle.moves.proofs.shift_down.Goals as goal
-
--- s₀ with its bytes from `by` on moved down, i of them
-abbrev moved : List ℕ → ℕ → ℕ → List ℕ
-moved s₀ by i = take i (drop by s₀) ++ drop i s₀
 
 one_moved : (s₀ s : List ℕ) (by i : ℕ) → i < length s₀ - by → s ≡ moved s₀ by i → set s i (get_or s (i + by) 0) ≡ moved s₀ by (i + 1)
 one_moved s₀ s by i h e =

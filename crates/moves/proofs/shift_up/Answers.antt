@@ -7,11 +7,8 @@ use native.Mathlib.Omega.{arith}
 use lib.ListN.{length, take, drop, get_or, set, length-take, get_or-append, drop_of_length-le}
 use lib.Seq.{take-suc, drop-cons, append_snoc, set_at, length-take-le, get_or-take, take_all}
 use borrow.Author.Rules.{rules}
+use Rattle.moves.proofs.shift_up.Invariants.{moved}
 use Rattle.moves.proofs.shift_up.Goals as goal
-
--- s₀ with its bytes from i on moved up, as far as they are to be moved
-abbrev moved : List ℕ → ℕ → ℕ → List ℕ
-moved s₀ by i = take (i + by) s₀ ++ drop i (take (length s₀ - by) s₀)
 
 none-moved : (s₀ : List ℕ) (by : ℕ) → by ≤ length s₀ → s₀ ≡ moved s₀ by (length s₀ - by)
 none-moved s₀ by h =

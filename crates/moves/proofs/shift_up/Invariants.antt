@@ -1,8 +1,13 @@
 -- The invariant: the bytes from i on are where they go, and the others still where they were. The measure is i.
-use Prim.Native.Nat.{◌+◌, ◌-◌, ◌≤◌}
+use Prim.Native.Nat.{ℕ, ◌+◌, ◌-◌, ◌≤◌}
 use mathlib.Core.Path.{◌≡◌}
-use lib.ListN.{length}
+use mathlib.Core.List.{List, ◌++◌}
+use lib.ListN.{length, take, drop}
 use Rattle.moves.proofs.shift_up.Given as goal
+
+-- s₀ with its bytes from i on moved up, as far as they are to be moved
+abbrev pub moved : List ℕ → ℕ → ℕ → List ℕ
+moved s₀ by i = take (i + by) s₀ ++ drop i (take (length s₀ - by) s₀)
 
 abbrev pub invariant-loop-i : goal.invariant-loop-i
 invariant-loop-i l = (l.i + l.by ≤ length l.initial.s) × ((l.s ≡ moved l.initial.s l.by l.i) × (length l.s ≡ length l.initial.s))

@@ -3,4 +3,4 @@ use Rattle.search.proofs.ZeroBytes.{word-zero}
 use Rattle.search.proofs.zero_marks.Goals as goal
 
 pub returns : goal.returns
-returns c = word-zero _ _ c.ranges.w.fits c.wrapping_sub_u64.ensures
+returns c = word-zero _ _ c.ranges.w.fits c.wrapping_sub_u64.ensures.value
