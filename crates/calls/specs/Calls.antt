@@ -13,7 +13,7 @@ use Rattle.dots.specs.Wire.{dots_of}
 use Rattle.dots.specs.Entries.{Entry, entry, Line}
 use Rattle.dots.specs.Message.{Message, add, remove, offered_of}
 use Rattle.messages.specs.Message.{message_bytes}
-use Rattle.messages.specs.Read.{name_of as messageName, message_of, read_refusals}
+use Rattle.messages.specs.Read.{name_of as message_name, message_of, read_refusals}
 use Rattle.store.specs.Cut.{store_bytes}
 use Rattle.listing.specs.Listing.{line_size, listing_bytes}
 use Rattle.replica.specs.Page.{page_after, page_fits, page_more}
@@ -137,7 +137,7 @@ module _ (st : State) (store message : Bytes) where
   take_in_refusals =
       (damaged st store, Damaged)
       ∷ read_refusals message
-      ++ ((other_set st store (messageName message), OtherSet)
+      ++ ((other_set st store (message_name message), OtherSet)
       ∷ (own_ahead st store (offered_of (message_of message)), OwnAhead)
       ∷ (too_far st store (offered_of (message_of message)), TooFar)
       ∷ (tombstone_full st store (take_in (message_of message)), TombstoneFull)

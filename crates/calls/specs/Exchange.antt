@@ -5,7 +5,7 @@ use Rattle.dots.specs.declared.Answer.TheVariants.{Done, Damaged, OwnAhead, TooF
 use Rattle.dots.specs.Answer.{number_of, Refusals}
 use Rattle.dots.specs.Wire.{dots_of}
 use Rattle.dots.specs.Message.{Message, add, remove, offered_of}
-use Rattle.messages.specs.Read.{name_of as messageName, message_of, read_answer}
+use Rattle.messages.specs.Read.{name_of as message_name, message_of, read_answer}
 use Rattle.replica.specs.Machine.{take_in}
 use Rattle.calls.specs.declared.State.{State}
 use Rattle.calls.specs.State.{name_of, view}
@@ -27,7 +27,7 @@ receiver_refusals st store m =
 pub record Exchanged (st : State) (m : Message) (written : Bytes) : Type 0 where
   -- they read back as what they meant
   pub accepted : read_answer written ≡ Done
-  pub name-is : messageName written ≡ name_of st
+  pub name-is : message_name written ≡ name_of st
   pub means : message_of written ≡ m
   -- another controller of the set takes m in, unless a refusal holds that speaks of the receiver
   pub taken : (st' : State) (store' : Bytes) → name_of st' ≡ name_of st

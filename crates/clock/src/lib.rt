@@ -6,9 +6,9 @@ ghost use Rattle.std.specs.Prelude.{◌≡◌, ◌+◌, ◌<◌, ◌≤◌, true
 ghost use Rattle.wire.specs.Loans.{after};
 ghost use Rattle.dots.specs.Dots.{max_counter, actor_most, actor_of, dot_of};
 ghost use Rattle.dots.specs.Wire.{dots_of};
-ghost use Rattle.clock.specs.Row.{window_width, seen as isSeen, well_formed, in_reach, trailing_ones, settled, join as joined};
+ghost use Rattle.clock.specs.Row.{window_width, seen as is_seen, well_formed, in_reach, trailing_ones, settled, join as joined};
 ghost use Rattle.clock.specs.Code.{row_of};
-ghost use Rattle.clock.specs.Clock.{row_at, with_row, sees as isSeenBy, rows_ok, clock_ok, join_dot, join_each, join_all, near};
+ghost use Rattle.clock.specs.Clock.{row_at, with_row, sees as is_seen_by, rows_ok, clock_ok, join_dot, join_each, join_all, near};
 ghost use Rattle.clock.specs.Reach.{reach_of, reach_start, row_for, reach_step, reach_each, IsReach, dots_around};
 ghost use Rattle.clock.specs.Reach.{CanJoinDot, Ready, Offer, OfferWith, CanJoinContext, CanJoinWithDot};
 
@@ -40,7 +40,7 @@ pub struct Row {
 
 // Whether a row sees an event.
 fn row_sees(row: Row, counter: u64) -> bool
-    ensures { result ≡ isSeen (row_of row) counter }
+    ensures { result ≡ is_seen (row_of row) counter }
 {
     let base = row.base;
     let window = row.window;
@@ -159,7 +159,7 @@ pub fn set_row(words: &mut Words, actor: dots::Actor, row: Row)
 
 // Whether the clock sees a dot.
 pub fn sees(words: &Words, dot: dots::Dot) -> bool
-    ensures { result ≡ isSeenBy words.now dot }
+    ensures { result ≡ is_seen_by words.now dot }
 {
     row_sees(row_of(words, dot.actor), dot.counter.number)
 }
@@ -176,7 +176,7 @@ fn base_at(words: &Words, row: u64) -> u64
 // Whether the clock sees an event of an actor, told by its number less 1. Most events are not above the base.
 pub fn sees_event(words: &Words, row: u64, event: u64) -> bool
     requires { row < actor_most }
-    ensures { result ≡ isSeenBy words.now (dot_of (actor_of (row + 1)) event) }
+    ensures { result ≡ is_seen_by words.now (dot_of (actor_of (row + 1)) event) }
 {
     if std::num::wrapping_sub_u64(event, 1) < base_at(words, row) {
         return true;

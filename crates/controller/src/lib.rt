@@ -4,7 +4,7 @@
 
 ghost use Rattle.std.specs.Prelude.{◌≡◌, false, [], ◌≤◌, length};
 ghost use Rattle.dots.specs.Names.{name_most};
-ghost use Rattle.calls.specs.Damage.{damaged as isDamaged};
+ghost use Rattle.calls.specs.Damage.{damaged as is_damaged};
 ghost use Rattle.calls.specs.State.{Sized};
 ghost use Rattle.calls.specs.Effect.{padded};
 ghost use Rattle.calls.specs.Calls.{fresh_state, set_up, compact_done, compact_result};
@@ -66,7 +66,7 @@ pub fn set_up(actor: u8, name: &[u8]) -> calls::SetUp
 
 // Drops the dead keys of an undamaged state's store, and leaves its tombstone empty.
 fn compact_done(state: calls::State, store: &mut [u8]) -> calls::Outcome
-    requires { (isDamaged state store.old ≡ false) × Sized state }
+    requires { (is_damaged state store.old ≡ false) × Sized state }
     ensures { Leaves (compact_done state store.old) store.new [] result }
 {
     let used = state.used;

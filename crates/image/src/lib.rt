@@ -13,7 +13,7 @@ ghost use Rattle.dots.specs.Wire.{tombstone_size};
 ghost use Rattle.clock.specs.Code.{row_of};
 ghost use Rattle.store.specs.Valid.{store_most};
 ghost use Rattle.calls.specs.State.{state_from};
-ghost use Rattle.calls.specs.Damage.{damaged as isDamaged};
+ghost use Rattle.calls.specs.Damage.{damaged as is_damaged};
 ghost use Rattle.calls.specs.Effect.{padded};
 ghost use Rattle.calls.specs.Image.{row_size, row_bytes, rows_bytes, image_bytes};
 ghost use Rattle.calls.specs.ImageRead.{four_at, version_ok, layout_of, shape_ok, Within, crc_ok, row_in, clock_in, state_at, written_at, free_of, writer_ok};
@@ -353,7 +353,7 @@ fn writer_ok(s: &[u8], l: calls::ImageLayout) -> bool
 // Whether the contents are a damaged state under the writer's actor. The keys are judged where they stand.
 fn contents_damaged(s: &[u8], l: calls::ImageLayout, words: &clock::Words) -> bool
     requires { Named s.now l × (words.now ≡ clock_in window_size actor_most s.now l.rows) }
-    ensures { result ≡ isDamaged (written_at s.now l) (part_of s.now l.keys) }
+    ensures { result ≡ is_damaged (written_at s.now l) (part_of s.now l.keys) }
 {
     if dots::TOMBSTONE_MOST < l.count {
         return true;

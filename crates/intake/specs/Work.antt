@@ -11,7 +11,7 @@ use Rattle.dots.specs.declared.Dot.{Dot}
 use Rattle.clock.specs.Clock.{row_at}
 use Rattle.dots.specs.Message.{Message, add, remove}
 use Rattle.messages.specs.declared.MessageRead.{MessageRead}
-use Rattle.messages.specs.Read.{name_of as messageName, message_of}
+use Rattle.messages.specs.Read.{name_of as message_name, message_of}
 use Rattle.messages.proofs.Accepted.{Found}
 use Rattle.calls.specs.declared.State.{State}
 use Rattle.calls.specs.declared.Outcome.{Outcome}
@@ -38,7 +38,7 @@ taken_answer other ahead late = cond other OtherSet (cond ahead OwnAhead late)
 
 -- those of a message's bytes
 abbrev pub taken_of : State → ℕ → Bytes → Refusals
-taken_of st size message = taken_late st size (messageName message) (message_of message)
+taken_of st size message = taken_late st size (message_name message) (message_of message)
 
 -- what they count on
 pub record MayJudge (st : State) (message : Bytes) (read : MessageRead) : Type 0 where

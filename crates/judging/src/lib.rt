@@ -9,7 +9,7 @@ ghost use Rattle.dots.specs.Names.{name_most, name_ok};
 ghost use Rattle.dots.specs.Wire.{dots_of, tombstone_size};
 ghost use Rattle.clock.specs.Clock.{sees};
 ghost use Rattle.calls.specs.State.{state_from, head_of};
-ghost use Rattle.calls.specs.Damage.{damaged as isDamaged};
+ghost use Rattle.calls.specs.Damage.{damaged as is_damaged};
 ghost use Rattle.judging.specs.Judging.{is_set_name, is_tombstone, state_ok, JudgesStore, Judges};
 
 // Whether every byte is 0.
@@ -122,7 +122,7 @@ pub fn damaged<'a>(
     tombstone: &'a [u8; dots::TOMBSTONE_SIZE],
     store: &[u8],
 ) -> bool
-    ensures { result ≡ isDamaged (state_from head words.now tombstone.now) store.now }
+    ensures { result ≡ is_damaged (state_from head words.now tombstone.now) store.now }
 {
     store::is_damage(judge(head, words, tombstone, store, &store[0..0]))
 }

@@ -8,7 +8,7 @@ use Rattle.clock.specs.Clock.{join_each}
 use Rattle.clock.specs.Reach.{Ready}
 use Rattle.clock.proofs.Contexts.{offer-ready, with-offer, with-near, with-joined, with-around}
 use Rattle.clock.proofs.join_with_dot.Goals as goal
-use Rattle.clock.proofs.join_with_dot.Goals.{After-place_of-at, After-shared_slice_known-1}
+use Rattle.clock.proofs.join_with_dot.Goals.{After-place_of-at}
 
 around : (c : After-place_of-at) → let a = c.args in let s = a.context.now in let at = c.place_of-at.result * dot_size in
     insert compare_dots a.dot (dots_of s) ≡ dots_of (take at s) ++ (a.dot ∷ dots_of (take (length s - at) (drop at s)))
@@ -22,9 +22,9 @@ join_around-requires c = let words = c.args.words.now in
     let context = c.args.context.now in
     let d = c.args.dot in
     let offer = with-offer window_width words context d c.requires.1 in
-    subst (Ready window_width words) (around (goal.at.join_around-requires c).After-shared_slice_known-1)
+    subst (Ready window_width words) (around (goal.at.join_around-requires c).After-place_of-at)
     (offer-ready window_width (omega arith) words (insert compare_dots d (dots_of context)) offer c.requires.0 (with-near window_width words context d c.requires.1 ∙ c.requires.2))
 
 pub returns : goal.returns
 returns c = let words = c.args.words.now in
-    c.join_around.ensures ∙ ap (join_each window_width words) (sym (around (goal.at.returns c).After-shared_slice_known-1)) ∙ with-joined window_width words c.args.context.now c.args.dot c.requires.1
+    c.join_around.ensures ∙ ap (join_each window_width words) (sym (around (goal.at.returns c).After-place_of-at)) ∙ with-joined window_width words c.args.context.now c.args.dot c.requires.1

@@ -13,26 +13,23 @@ returns-then-not-x c = let a = c.args in
 
 pub returns-then-not-row_reaches : goal.returns-then-not-row_reaches
 returns-then-not-row_reaches c = let a = c.args in
-    let out = ap (λ (r : Row). in_reach window_width r a.dot.counter.number) (sym c.row_for-row.ensures) ∙ sym c.row_reaches.ensures ∙ not-true c.row_reaches.result c.if-not-row_reaches.true in
+    let out = ap (λ (r : Row). in_reach window_width r a.dot.counter.number) (sym c.row_for-row.ensures) ∙ sym c.row_reaches.ensures ∙ c.if-not-row_reaches.true in
     (sym (step-out window_width a.words.now (reach_of a.x) a.dot (inr out)), c.requires.1)
 
 pub row_join-joined-requires : goal.row_join-joined-requires
 row_join-joined-requires c = let a = c.args in (
       rw c.row_for-row.ensures (forms (for_formed window_width a.words.now (reach_of a.x) a.dot.actor.number c.requires.0 (formed c.requires.1))),
-      sym c.row_reaches.ensures ∙ not-false c.row_reaches.result c.if-not-row_reaches.false,
+      sym c.row_reaches.ensures ∙ c.if-not-row_reaches.false,
     )
 
 pub returns : goal.returns
-returns c = ? -- unknown step well-formed at After-row_for-arg
-    -- let near = c.before.before in
-    --     let known = near.before.before.before.before in
-    --     let start = known.before in
-    --     let a = start.args in
-    --     let words = a.words.now in
-    --     let x = reach_of a.x in
-    --     let row = ap (λ (r : Row). join window_width r a.dot.counter.number) known.row-for.ensures in
-    --     let reaches = ap (λ (r : Row). in_reach window_width r a.dot.counter.number) (sym known.row-for.ensures) ∙ sym near.before.row-reaches.ensures ∙ not-false near.before.row-reaches.result near.if2.false in
-    --     let ok = not-false a.x.ok near.before.before.if1.false in
-    --     let stepped = ap {B = Reach} (λ r. record { ok = true; actor = a.dot.actor.number; row = r }) (c.before.row-join.ensures ∙ row) ∙ sym (step_in window_width words x a.dot ok reaches) in
-    --     let formed-row = step-formed window_width words x a.dot start.requires.0 (formed start.requires.1) (omega (arith, start.well-formed.1.1.0)) in
-    --     (stepped, forms (subst (λ (y : Reach). WellFormed window_width y.row) (sym stepped) formed-row))
+returns c =
+    let a = c.args in
+    let words = a.words.now in
+    let x = reach_of a.x in
+    let row = ap (λ (r : Row). join window_width r a.dot.counter.number) c.row_for-row.ensures in
+    let reaches = ap (λ (r : Row). in_reach window_width r a.dot.counter.number) (sym c.row_for-row.ensures) ∙ sym c.row_reaches.ensures ∙ c.if-not-row_reaches.false in
+    let ok = not-false a.x.ok c.if-not-x.false in
+    let stepped = ap {B = Reach} (λ r. record { ok = true; actor = a.dot.actor.number; row = r }) (c.row_join-joined.ensures ∙ row) ∙ sym (step_in window_width words x a.dot ok reaches) in
+    let formed-row = step-formed window_width words x a.dot c.requires.0 (formed c.requires.1) (omega (arith, c.well_formed.1.1.0)) in
+    (stepped, forms (subst (λ (y : Reach). WellFormed window_width y.row) (sym stepped) formed-row))

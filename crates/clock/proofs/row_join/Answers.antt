@@ -33,7 +33,7 @@ pub overflow_shl-above : goal.overflow_shl-above
 overflow_shl-above c = (event (goal.at.overflow_shl-above c).Else-row_sees).near
 
 pub settle-requires : goal.settle-requires
-settle-requires c = rw (word (goal.at.settle-requires c).Else-row_sees) (event (goal.at.settle-requires c).Else-row_sees).ranges
+settle-requires c = rw (word (goal.at.settle-requires c).Else-row_sees) (event (goal.at.settle-requires c).Else-row_sees).fits
 
 pub returns : goal.returns
 unfolding marked

@@ -13,7 +13,7 @@ run c = ones_zeros window_width c.args.window c.ranges.window.fits
 
 -- a run that is not below 64 is 64
 full : (c : Else-run-lt-WINDOW_RUN) → trailing_ones window_width c.args.window ≡ window_width
-full c = omega (arith, run c.TODO-place-Start, trailing_le window_width (2 ^ window_width - 1 - c.args.window))
+full c = omega (arith, run c.before, trailing_le window_width (2 ^ window_width - 1 - c.args.window))
 
 pub overflow_add-result : goal.overflow_add-result
 overflow_add-result c = omega (arith, run (goal.at.overflow_add-result c).Start)
