@@ -91,7 +91,7 @@ module _ (C : ClockModel) (L : ClockLaws C) (K : Controller C) where
       → Invariant C L (K.view (run C K x is)) (history_from h (events C K x is))
   unfolding run events history_from
   run_keeps inv [] = inv
-  run_keeps inv (i ∷ is) = run_keeps (step_keeps inv i) is
+  run_keeps {x = x} {h = h} inv (i ∷ is) = run_keeps {x = K.step x i} {h = after x h i} (step_keeps inv i) is
 
   -- the rule's messages are those taken in or written
   step-messages : {x : K.Held} {h : History} → Invariant C L (K.view x) h → (i : K.Input) (m : Message)
@@ -108,7 +108,7 @@ module _ (C : ClockModel) (L : ClockLaws C) (K : Controller C) where
       → (m : Message) → (m ∈ (history_from h (events C K x is)).messages) ↔ ((m ∈ traffic C K x is) ⊎ (m ∈ h.messages))
   unfolding events history_from traffic
   run-messages inv [] m = (inr, ⊎_elim (λ k. absurd (Memᴰ.not-nil k)) (λ k. k))
-  run-messages inv (i ∷ is) m = regroup member-append (run-messages (step_keeps inv i) is m) (step-messages inv i m)
+  run-messages {x = x} {h = h} inv (i ∷ is) m = regroup member-append (run-messages {x = K.step x i} {h = after x h i} (step_keeps inv i) is m) (step-messages inv i m)
     where
       regroup : {Now Later Both Old Mid New : Type 0} → Both ↔ (Now ⊎ Later) → New ↔ (Later ⊎ Mid) → Mid ↔ (Now ⊎ Old) → New ↔ (Both ⊎ Old)
       regroup f g k = (
