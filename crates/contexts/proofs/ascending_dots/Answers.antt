@@ -1,6 +1,6 @@
 use mathlib.Core.Path.{◌≡◌, sym, ap, ◌∙◌}
 use mathlib.Core.List.{List}
-use Prim.Native.Nat.{ℕ, ◌-◌}
+use Prim.Native.Nat.{ℕ}
 use Rattle.dots.specs.Dots.{zero_dot, ascending_dots}
 use Rattle.dots.specs.Wire.{dots_of}
 use Rattle.dots.proofs.Rules.{ascend_after, ascending-is}

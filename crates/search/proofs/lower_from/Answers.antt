@@ -1,4 +1,4 @@
-use Rattle.std.proofs.Common.{◌≡◌, ℕ, ◌+◌, ◌-◌, ◌<◌, ◌≤◌, false, ltb, List, [], length, get_or, drop, sym, ap, ◌∙◌, arith, drop_of_length-le, rules, le-ltb, lt-ltb}
+use Rattle.std.proofs.Common.{◌≡◌, ℕ, ◌+◌, ◌<◌, ◌≤◌, false, ltb, List, [], length, get_or, drop, sym, ap, ◌∙◌, arith, drop_of_length-le, rules, le-ltb, lt-ltb}
 use Prim.Native.Nat.{Ordering}
 use native.Mathlib.Decide.{dec_le}
 use Rattle.wire.specs.Lists.{is_lt, compare_lists}

@@ -1,4 +1,4 @@
-use Rattle.std.proofs.Common.{◌≡◌, ℕ, ◌+◌, ◌-◌, ◌<◌, ◌≤◌, Bool, true, false, List, length, get_or, drop, sym, ◌∙◌, arith, drop_of_length-le, rules, eq-eqb, ne_eqb}
+use Rattle.std.proofs.Common.{◌≡◌, ℕ, ◌+◌, ◌<◌, ◌≤◌, Bool, true, false, List, length, get_or, drop, sym, ◌∙◌, arith, drop_of_length-le, rules, eq-eqb, ne_eqb}
 use Rattle.wire.specs.Bytes.{starts_with}
 use Rattle.wire.proofs.Parts.{drop-step}
 use Rattle.search.proofs.starts_from.Goals as goal

@@ -1,4 +1,4 @@
-use Rattle.std.proofs.Common.{◌≡◌, ℕ, ◌+◌, ◌-◌, ◌<◌, ◌≤◌, List, length, get_or, drop, arith, w8, Fits, rules}
+use Rattle.std.proofs.Common.{◌≡◌, ℕ, ◌+◌, ◌<◌, ◌≤◌, List, length, get_or, drop, arith, w8, Fits, rules}
 use Rattle.wire.specs.Bytes.{little_endian, low_number_at, zero_at}
 use Rattle.search.proofs.ZeroBytes.{zero_in_word, zero_past_word}
 use Rattle.search.proofs.zero_after.Goals as goal

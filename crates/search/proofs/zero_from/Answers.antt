@@ -1,4 +1,4 @@
-use Rattle.std.proofs.Common.{◌≡◌, ℕ, ◌+◌, ◌-◌, ◌<◌, ◌≤◌, List, length, get_or, drop, arith, drop_of_length-le, rules}
+use Rattle.std.proofs.Common.{◌≡◌, ℕ, ◌+◌, ◌<◌, ◌≤◌, List, length, get_or, drop, arith, drop_of_length-le, rules}
 use Rattle.wire.specs.Bytes.{zero_at}
 use Rattle.wire.proofs.Parts.{drop-step}
 use Rattle.search.proofs.ZeroBytes.{zero-first, zero-later}

@@ -1,4 +1,4 @@
-use Rattle.std.proofs.Common.{◌≡◌, ℕ, ◌+◌, ◌-◌, ◌%◌, ◌<◌, ◌≤◌, min, List, length, get_or, drop, sym, ◌∙◌, arith, w8, w64, Fits, rules}
+use Rattle.std.proofs.Common.{◌≡◌, ℕ, ◌+◌, ◌%◌, ◌<◌, ◌≤◌, min, List, length, get_or, drop, sym, ◌∙◌, arith, w8, w64, Fits, rules}
 use Rattle.wire.specs.Bytes.{little_endian, low_number_at, zero_at}
 use Rattle.search.specs.Marks.{mark_place}
 use Rattle.search.proofs.ZeroBytes.{place_none, place-some, zero_in_word, zero_past_word}

@@ -10,7 +10,6 @@ use borrow.Author.Rules.{rules}
 use Rattle.wire.proofs.part.Goals as goal
 
 nothing : (s : List ℕ) (at len : ℕ) → length s < at → take (0 - 0) (drop 0 s) ≡ take len (drop at s)
-
 nothing s at len h = let past : length s ≤ at = omega arith in sym (rw (drop_of_length-le s past) (take-nil len))
 
 all_left : (s : List ℕ) (at len : ℕ) → length s < at + len → take (length s - at) (drop at s) ≡ take len (drop at s)
