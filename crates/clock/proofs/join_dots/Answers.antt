@@ -1,4 +1,4 @@
-use Rattle.std.proofs.Common.{◌-◌, ◌*◌, sym, ap, ◌∙◌, subst, arith}
+use Rattle.std.proofs.Common.{◌*◌, sym, ap, ◌∙◌, subst, arith}
 use Rattle.clock.specs.Row.{window_width}
 use Rattle.clock.specs.Clock.{join_each}
 use Rattle.dots.specs.Wire.{dot_at, dot_size}

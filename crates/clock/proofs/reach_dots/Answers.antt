@@ -1,4 +1,4 @@
-use Rattle.std.proofs.Common.{◌-◌, true, sym, ap, ◌∙◌, arith}
+use Rattle.std.proofs.Common.{sym, ap, ◌∙◌, arith}
 use Rattle.clock.specs.Row.{window_width}
 use Rattle.clock.specs.Reach.{reach_of, reach_each}
 use Rattle.dots.proofs.Loops.{dots-start, dots-next, dots-none}

@@ -18,9 +18,9 @@ returns-then-not-row_reaches c = let a = c.args in
 
 pub row_join-joined-requires : goal.row_join-joined-requires
 row_join-joined-requires c = let a = c.args in (
-      rw c.row_for-row.ensures (forms (for_formed window_width a.words.now (reach_of a.x) a.dot.actor.number c.requires.0 (formed c.requires.1))),
-      sym c.row_reaches.ensures ∙ c.if-not-row_reaches.false,
-    )
+  rw c.row_for-row.ensures (forms (for_formed window_width a.words.now (reach_of a.x) a.dot.actor.number c.requires.0 (formed c.requires.1))),
+  sym c.row_reaches.ensures ∙ c.if-not-row_reaches.false,
+)
 
 pub returns : goal.returns
 returns c =

@@ -1,4 +1,4 @@
-use Rattle.std.proofs.Common.{◌≡◌, ◌-◌, Bool, ◌&&◌, sym, refl, ap, ◌∙◌, ap₂, arith}
+use Rattle.std.proofs.Common.{◌≡◌, Bool, ◌&&◌, sym, refl, ap, ◌∙◌, ap₂, arith}
 use Rattle.clock.proofs.Clocks.{all_to-next}
 use Rattle.clock.specs.Row.{window_width, well_formed}
 use Rattle.clock.specs.Clock.{row_at, all_to, rows_ok}

@@ -8,7 +8,6 @@ use Rattle.keys.specs.Read.{name_length}
 use Rattle.keys.proofs.name_length.Goals as goal
 
 found : (s t : Bytes) (r : ℕ) → t ≡ drop 2 s → (r ≡ zero_at t) × (r ≤ length t) → (r ≡ name_length s) × (r ≤ length s)
-
 found s t r e h = let size : length t ≤ length s = rw (e, length-drop) (omega arith) in (rw (← e) h.0, omega arith)
 
 pub returns : goal.returns

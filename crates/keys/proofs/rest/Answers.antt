@@ -10,7 +10,6 @@ use borrow.Author.Rules.{rules}
 use Rattle.keys.proofs.rest.Goals as goal
 
 nothing : (s : List ℕ) (at : ℕ) → length s < at → take (0 - 0) (drop 0 s) ≡ drop at s
-
 nothing s at h = let past : length s ≤ at = omega arith in sym (drop_of_length-le s past)
 
 pub returns-then-s-at : goal.returns-then-s-at

@@ -1,4 +1,3 @@
-use Prim.Native.Nat.{◌-◌}
 use Rattle.slots.proofs.Filling.{fill_start, fill_turn, fill_end}
 use borrow.Author.Rules.{rules}
 use Rattle.slots.proofs.fill_slots.Goals as goal
