@@ -1,9 +1,8 @@
 -- The key at the front of some bytes: the tests of its bytes, after the prefix and whole, are the rules of a stored key. Assumes nothing.
-use Rattle.std.proofs.Common.{◌≡◌, ℕ, zero, suc, ◌+◌, ◌-◌, ◌^◌, ◌<◌, ◌≤◌, min, Bool, true, false, cond, not, ◌&&◌, eqb, leb, List, [], ◌∷◌, length, get_or, take, drop, sym, refl, ap, ◌∙◌, true≢false, arith, length-append, length-drop, length-take, length-take-le, take_all, get_or-take, take-take, w8, w64, Fits, eq-eqb, ne_eqb, eqb-true, le-leb}
+use Rattle.std.proofs.Common.{◌≡◌, ℕ, zero, suc, ◌+◌, ◌-◌, ◌^◌, ◌<◌, ◌≤◌, min, Bool, true, false, cond, ◌&&◌, eqb, leb, List, [], ◌∷◌, length, get_or, take, drop, sym, refl, ap, ◌∙◌, true≢false, arith, length-append, length-drop, length-take, length-take-le, take_all, get_or-take, take-take, w8, w64, Fits, eq-eqb, ne_eqb, eqb-true, le-leb}
 use mathlib.Core.Bool.{and_assoc, and-false}
 use mathlib.Core.Option.{none, some}
 use native.Mathlib.Decide.{dec_le}
-use borrow.Author.Tests.{not-true, not-false}
 use Rattle.wire.specs.Bytes.{Bytes, between, number_at, zero_at, starts_with}
 use Rattle.wire.proofs.Tests.{both}
 use Rattle.wire.proofs.ByteOrder.{starts-split}
@@ -64,15 +63,15 @@ module _ (words : List ℕ) (t : Bytes) (n : ℕ) (label : n ≡ zero_at t) wher
         let number : number_at 8 u (n + 3) ≡ event = rw (drop-take (n + 3) (n + suffix_size) t, eight, take-take 8 8 (drop (n + 3) t) (omega arith)) (sym counter) in
         rw (← label, zero-at, whole, eq-eqb (n + suffix_size) (n + suffix_size) refl, number, get_or-take (n + suffix_size) t (n + 1) 0 (omega arith), get_or-take (n + suffix_size) t (n + 2) 0 (omega arith))
 
-    pub after_failed : not shape ≡ true → 0 ≡ after_length words t
-    after_failed h = sym (tested ∙ rw (not-true shape h))
+    pub after_failed : shape ≡ false → 0 ≡ after_length words t
+    after_failed h = sym (tested ∙ rw h)
 
-    module _ (h : not shape ≡ false) (seen : Bool) (known : seen ≡ sees words (dot_of (actor_of (get_or t (n + 1) 0)) event)) where
+    module _ (h : shape ≡ true) (seen : Bool) (known : seen ≡ sees words (dot_of (actor_of (get_or t (n + 1) 0)) event)) where
       pub after-passed : seen ≡ true → n + suffix_size ≡ after_length words t
-      after-passed s = sym (tested ∙ rw (not-false shape h, ← known, s))
+      after-passed s = sym (tested ∙ rw (h, ← known, s))
 
       pub after-unseen : seen ≡ false → 0 ≡ after_length words t
-      after-unseen s = sym (tested ∙ rw (not-false shape h, ← known, s))
+      after-unseen s = sym (tested ∙ rw (h, ← known, s))
 
 -- a label that breaks its rule
 pub after-bad : (words : List ℕ) (t : Bytes) → between 1 label_most (zero_at t) ≡ false → after_length words t ≡ 0
@@ -170,13 +169,13 @@ module _ (name : Name) (words : List ℕ) (s : Bytes) where
       size : length start ≡ length name + prefix_fixed
       size = ap length is-start ∙ length-prefix name
 
-      pub front-other : not r ≡ true → 0 ≡ front_length name words s
+      pub front-other : r ≡ false → 0 ≡ front_length name words s
       unfolding front_length k
-      front-other d = rw (key_tests, ← is-begun, not-true r d)
+      front-other d = rw (key_tests, ← is-begun, d)
 
-      module _ (d : not r ≡ false) where
+      module _ (d : r ≡ true) where
         is_prefixed : starts_with (prefix name) s ≡ true
-        is_prefixed = sym is-begun ∙ not-false r d
+        is_prefixed = sym is-begun ∙ d
 
         pub front_fits : length start ≤ length s
         front_fits = rw size (starts_fit name s is_prefixed)

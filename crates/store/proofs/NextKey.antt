@@ -1,6 +1,5 @@
 -- One key more of the pass: what is known of the keys so far, before and after it. Assumes nothing.
-use Rattle.std.proofs.Common.{◌≡◌, ℕ, ◌+◌, ◌-◌, ◌<◌, ◌≤◌, Bool, true, false, not, ◌⊎◌, List, length, get_or, take, drop, sym, refl, ap, ◌∙◌, inl, inr, arith, drop-drop, w8, Fits}
-use borrow.Author.Tests.{not-false}
+use Rattle.std.proofs.Common.{◌≡◌, ℕ, ◌+◌, ◌-◌, ◌<◌, ◌≤◌, Bool, true, false, ◌⊎◌, List, length, get_or, take, drop, sym, refl, ap, ◌∙◌, inl, inr, arith, drop-drop, w8, Fits}
 use Rattle.wire.specs.Lists.{is_lt}
 use Rattle.wire.specs.Bytes.{Bytes, compare_bytes, number_at, starts_with}
 use Rattle.wire.proofs.Tests.{decided}
@@ -46,15 +45,15 @@ module _ (name : Name) (words : List ℕ) (keys : Bytes) where
           is-ordered : o ≡ is_lt (compare_bytes (tail_of keys last) (take (last.end + len - (last.end + (length name + prefix_fixed))) (drop (last.end + (length name + prefix_fixed)) keys)))
           is-ordered = rw (← tail-is) ordered
 
-          pub next_unordered : not o ≡ true → used_ok name words keys ≡ false
+          pub next_unordered : o ≡ false → used_ok name words keys ≡ false
           next_unordered d = sym (out_of_order name words keys last.from last.end p.decides more len read some o is-ordered d)
 
-          pub next-sound : not o ≡ false → TailIn keys next → MarkTells next.mark next.len → Passing name words keys next
+          pub next-sound : o ≡ true → TailIn keys next → MarkTells next.mark next.len → Passing name words keys next
           next-sound d numbers marks = record {
             tail_in = numbers;
             marked = marks;
             decides = rw (tail-is, end_is) (passed name words keys last.from last.end p.decides more len read some o is-ordered d);
-            tells = λ label below. rw end_is (next-tells name label keys (tail_of keys last) _ last.end len more (key-length name words keys last.end len read some) (sym is-ordered ∙ not-false o d)
+            tells = λ label below. rw end_is (next-tells name label keys (tail_of keys last) _ last.end len more (key-length name words keys last.end len read some) (sym is-ordered ∙ d)
                 (key-before name words keys last.end len read some label) (p.tells label) (rw tail-is at below));
           }
 
@@ -94,10 +93,10 @@ module _ (start : Bytes) (words : List ℕ) (keys : Bytes) (at len : ℕ) (is : 
   bytes_rest i = record { fits = bytes_take (drop at keys) (length keys - at) (bytes_drop keys at (λ k. (small k).fits)) i }
 
   module _ (r : Bool) (begins : r ≡ starts_with start rest) where
-    pub roomy-other : not r ≡ true → 0 ≡ front_length (name_in start) words rest
+    pub roomy-other : r ≡ false → 0 ≡ front_length (name_in start) words rest
     roomy-other = front-other (name_in start) words rest is.0 bytes_rest start is.1 r begins
 
-    pub roomy-read : not r ≡ false → (l : ℕ) → after_length words tail ≡ l + suffix_size → length start + (l + suffix_size) ≡ front_length (name_in start) words rest
+    pub roomy-read : r ≡ true → (l : ℕ) → after_length words tail ≡ l + suffix_size → length start + (l + suffix_size) ≡ front_length (name_in start) words rest
     roomy-read d l e = front-passed (name_in start) words rest is.0 bytes_rest start is.1 r begins d (l + suffix_size) (sym e ∙ ap (after_length words) tail-rest) (λ z. omega arith)
 
   pub roomy-bad : after_length words tail ≡ 0 → 0 ≡ front_length (name_in start) words rest

@@ -1,6 +1,5 @@
 -- One pass over the used bytes decides their rules: the keys begin alike, so that each needs to be compared with the one before it only from its label on. Assumes nothing.
-use Rattle.std.proofs.Common.{◌≡◌, ℕ, ◌+◌, ◌-◌, ◌<◌, ◌≤◌, Bool, true, false, cond, not, ◌&&◌, ◌⊎◌, List, [], ◌∷◌, ◌++◌, map, length, take, drop, sym, refl, ap, ◌∙◌, ap₂, inl, inr, append_assoc, arith, length-append, length-drop, drop_of_length-le, length-take, drop-drop, drop_at}
-use borrow.Author.Tests.{not-true, not-false}
+use Rattle.std.proofs.Common.{◌≡◌, ℕ, ◌+◌, ◌-◌, ◌<◌, ◌≤◌, Bool, true, false, cond, ◌&&◌, ◌⊎◌, List, [], ◌∷◌, ◌++◌, map, length, take, drop, sym, refl, ap, ◌∙◌, ap₂, inl, inr, append_assoc, arith, length-append, length-drop, drop_of_length-le, length-take, drop-drop, drop_at}
 use Rattle.wire.specs.Lists.{all, is_lt, ascends_from, ascends}
 use Rattle.wire.specs.Bytes.{Bytes, compare_bytes}
 use Rattle.wire.proofs.Tests.{both, decided}
@@ -154,8 +153,8 @@ module _ (name : Name) (words : List ℕ) where
           is-ordered : o ≡ is_lt (compare_bytes (take (at - label) (drop label keys)) (tail (key at)))
           is-ordered = rw (tail-is at len read some) at ordered
 
-          pub out_of_order : not o ≡ true → false ≡ used_ok name words keys
-          out_of_order d = sym (cut ∙ rw (passes at len read some, ← is-ordered, not-true o d))
+          pub out_of_order : o ≡ false → false ≡ used_ok name words keys
+          out_of_order d = sym (cut ∙ rw (passes at len read some, ← is-ordered, d))
 
-          pub passed : not o ≡ false → used_ok name words keys ≡ rest_ok name words (take (at + len - (at + (length name + prefix_fixed))) (drop (at + (length name + prefix_fixed)) keys)) (keys_of (length name) (drop (at + len) keys))
-          passed d = cut ∙ rw (passes at len read some, ← is-ordered, not-false o d, tail-is at len read some, is-size at len read some)
+          pub passed : o ≡ true → used_ok name words keys ≡ rest_ok name words (take (at + len - (at + (length name + prefix_fixed))) (drop (at + (length name + prefix_fixed)) keys)) (keys_of (length name) (drop (at + len) keys))
+          passed d = cut ∙ rw (passes at len read some, ← is-ordered, d, tail-is at len read some, is-size at len read some)

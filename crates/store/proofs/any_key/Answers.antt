@@ -1,69 +1,82 @@
 -- By its length, which is 0 where it breaks a rule, and its order.
-use Rattle.std.proofs.Common.{◌≡◌, ◌+◌, length, refl, arith}
+use Rattle.std.proofs.Common.{◌≡◌, ℕ, ◌+◌, ◌<◌, ◌≤◌, Bool, true, false, List, length, take, drop, refl, arith, ◌-◌}
+use Rattle.wire.specs.Lists.{is_lt}
+use Rattle.wire.specs.Bytes.{Bytes, compare_bytes, number_at}
 use Rattle.keys.specs.Key.{prefix_fixed}
 use Rattle.store.specs.declared.KeyTail.{KeyTail}
-use Rattle.store.specs.Front.{TailIn}
-use Rattle.store.specs.Pass.{name_in}
+use Rattle.store.specs.Valid.{used_ok}
+use Rattle.store.specs.Front.{front_length, TailIn, tail_of}
+use Rattle.store.specs.Pass.{name_in, IsStart, Passing}
 use Rattle.store.proofs.FirstNumbers.{numbers-read}
 use Rattle.store.proofs.OnePass.{Bounds}
 use Rattle.store.proofs.Prefixes.{start-size}
 use Rattle.store.proofs.NextKey.{next-bad, next-bounds, next_unordered, next-sound}
 use Rattle.store.proofs.any_key.Goals as goal
-use Rattle.store.proofs.any_key.Goals.{After-half_at, Else-size-eq0}
 
-bounded : (c : Else-size-eq0) → Bounds (name_in c.args.start.now) c.args.keys.now c.args.last.end c.front_length-size.result
-bounded c = next-bounds _ _ _ _ c.requires.1 c.requires.2 _ c.front_length-size.ensures c.if-size-eq0.false
+-- a key that keeps the rules
+module _ (start : Bytes) (words : List ℕ) (keys : Bytes) (last : KeyTail) (is : IsStart start) (p : Passing (name_in start) words keys last) (more : last.end < length keys) (size : ℕ)
+    (read : size ≡ front_length (name_in start) words (take (length keys - last.end) (drop last.end keys))) (some : size ≡ 0 → ⊥) where
+  bounded : Bounds (name_in start) keys last.end size
+  bounded = next-bounds (name_in start) words keys last p more size read some
 
-sized : (c : Else-size-eq0) → length c.args.start.now ≡ length (name_in c.args.start.now) + prefix_fixed
-sized c = start-size _ c.requires.0.1
+  sized : length start ≡ length (name_in start) + prefix_fixed
+  sized = start-size start is.1
 
--- the key as it is read, and its numbers
-abbrev next : After-half_at → KeyTail
-next c = record {
-  from = c.args.last.end + length c.args.start.now;
-  end = c.args.last.end + c.front_length-size.result;
-  len = 0;
-  mark = 0;
-  word = c.number_at.result;
-  half = c.half_at.result;
+  -- it has 12 bytes from its label on, and ends within the keys
+  label-room : last.end + length start + 12 ≤ last.end + size
+  label-room = omega (arith, bounded.tail_within, sized)
 
-numbers : (c : After-half_at) → TailIn c.args.keys.now (next c)
-numbers c = let b = bounded c.TODO-place-Else-size-eq0 in
-    let size = sized c.TODO-place-Else-size-eq0 in
-    numbers-read _ _ _ _ _ (omega arith) (omega arith) c.number_at.ensures c.half_at.ensures.0
+  within : last.end + size ≤ length keys
+  within = bounded.end-within
+
+  module _ (word half : ℕ) (first : word ≡ number_at 8 keys (last.end + length start)) (second : half ≡ number_at 4 keys (last.end + length start + 8)) where
+    -- the key as it is read, and its numbers
+    abbrev next : KeyTail
+    next = record {
+      from = last.end + length start;
+      end = last.end + size;
+      len = 0;
+      mark = 0;
+      word = word;
+      half = half;
+    }
+
+    numbers : TailIn keys next
+    numbers = numbers-read keys _ _ word half label-room within first second
+
+    module _ (o : Bool) (ordered : o ≡ is_lt (compare_bytes (tail_of keys last) (tail_of keys next))) where
+      unordered : o ≡ false → used_ok (name_in start) words keys ≡ false
+      unordered e = next_unordered (name_in start) words keys last p more size read some next (omega (arith, sized)) refl o ordered e
+
+      sound : o ≡ true → Passing (name_in start) words keys next × (last.end + 1 ≤ last.end + size)
+      sound e = (next-sound (name_in start) words keys last p more size read some next (omega (arith, sized)) refl o ordered e numbers (λ h. absurd (h refl)), omega (arith, label-room))
 
 pub returns-then-size-eq0 : goal.returns-then-size-eq0
 returns-then-size-eq0 c = next-bad _ _ _ _ c.requires.1 c.requires.2 _ c.front_length-size.ensures c.if-size-eq0.true
 
-pub overflow_add-from : goal.overflow_add-from
-overflow_add-from c = let b = bounded (goal.at.overflow_add-from c).Else-size-eq0 in let size = sized (goal.at.overflow_add-from c).Else-size-eq0 in omega arith
-
 pub overflow_add-end : goal.overflow_add-end
-overflow_add-end c = let b = bounded (goal.at.overflow_add-end c).Else-size-eq0 in omega arith
+overflow_add-end c = let w = within _ _ _ _ c.requires.0 c.requires.1 c.requires.2 _ c.front_length-size.ensures c.if-size-eq0.false in omega arith
 
 pub number_at-requires : goal.number_at-requires
-number_at-requires c = let b = bounded (goal.at.number_at-requires c).Else-size-eq0 in let size = sized (goal.at.number_at-requires c).Else-size-eq0 in omega arith
+number_at-requires c = let l = label-room _ _ _ _ c.requires.0 c.requires.1 c.requires.2 _ c.front_length-size.ensures c.if-size-eq0.false in let w = within _ _ _ _ c.requires.0 c.requires.1 c.requires.2 _ c.front_length-size.ensures c.if-size-eq0.false in omega arith
 
 pub overflow_add-from-2 : goal.overflow_add-from-2
-overflow_add-from-2 c = let b = bounded (goal.at.overflow_add-from-2 c).Else-size-eq0 in let size = sized (goal.at.overflow_add-from-2 c).Else-size-eq0 in omega arith
+overflow_add-from-2 c = let l = label-room _ _ _ _ c.requires.0 c.requires.1 c.requires.2 _ c.front_length-size.ensures c.if-size-eq0.false in let w = within _ _ _ _ c.requires.0 c.requires.1 c.requires.2 _ c.front_length-size.ensures c.if-size-eq0.false in omega arith
 
 pub half_at-requires : goal.half_at-requires
-half_at-requires c = let b = bounded (goal.at.half_at-requires c).Else-size-eq0 in let size = sized (goal.at.half_at-requires c).Else-size-eq0 in omega arith
+half_at-requires c = let l = label-room _ _ _ _ c.requires.0 c.requires.1 c.requires.2 _ c.front_length-size.ensures c.if-size-eq0.false in let w = within _ _ _ _ c.requires.0 c.requires.1 c.requires.2 _ c.front_length-size.ensures c.if-size-eq0.false in omega arith
 
 pub slice_bounds-lower-count-2 : goal.slice_bounds-lower-count-2
-slice_bounds-lower-count-2 c = let b = bounded (goal.at.slice_bounds-lower-count-2 c).Else-size-eq0 in let size = sized (goal.at.slice_bounds-lower-count-2 c).Else-size-eq0 in omega arith
+slice_bounds-lower-count-2 c = let l = label-room _ _ _ _ c.requires.0 c.requires.1 c.requires.2 _ c.front_length-size.ensures c.if-size-eq0.false in let w = within _ _ _ _ c.requires.0 c.requires.1 c.requires.2 _ c.front_length-size.ensures c.if-size-eq0.false in omega arith
 
 pub slice_bounds-lower-start-2 : goal.slice_bounds-lower-start-2
-slice_bounds-lower-start-2 c = let b = bounded (goal.at.slice_bounds-lower-start-2 c).Else-size-eq0 in let size = sized (goal.at.slice_bounds-lower-start-2 c).Else-size-eq0 in omega arith
+slice_bounds-lower-start-2 c = let l = label-room _ _ _ _ c.requires.0 c.requires.1 c.requires.2 _ c.front_length-size.ensures c.if-size-eq0.false in let w = within _ _ _ _ c.requires.0 c.requires.1 c.requires.2 _ c.front_length-size.ensures c.if-size-eq0.false in omega arith
 
 pub slice_bounds-lower-end-2 : goal.slice_bounds-lower-end-2
-slice_bounds-lower-end-2 c = let b = bounded (goal.at.slice_bounds-lower-end-2 c).Else-size-eq0 in let size = sized (goal.at.slice_bounds-lower-end-2 c).Else-size-eq0 in omega arith
+slice_bounds-lower-end-2 c = let l = label-room _ _ _ _ c.requires.0 c.requires.1 c.requires.2 _ c.front_length-size.ensures c.if-size-eq0.false in let w = within _ _ _ _ c.requires.0 c.requires.1 c.requires.2 _ c.front_length-size.ensures c.if-size-eq0.false in omega arith
 
 pub returns-then-not-lower : goal.returns-then-not-lower
-returns-then-not-lower c = let size = sized (goal.at.returns-then-not-lower c).Else-size-eq0 in
-    next_unordered _ _ _ _ c.requires.1 c.requires.2 _ c.front_length-size.ensures c.if-size-eq0.false (next (goal.at.returns-then-not-lower c).After-half_at) (omega arith) refl _ c.lower.ensures c.if-not-lower.true
+returns-then-not-lower c = unordered _ _ _ _ c.requires.0 c.requires.1 c.requires.2 _ c.front_length-size.ensures c.if-size-eq0.false _ _ c.number_at.ensures c.half_at.ensures.0 _ c.lower.ensures c.if-not-lower.true
 
 pub returns : goal.returns
-returns c = let size = sized (goal.at.returns c).Else-size-eq0 in
-    let b = bounded (goal.at.returns c).Else-size-eq0 in
-    (next-sound _ _ _ _ c.requires.1 c.requires.2 _ c.front_length-size.ensures c.if-size-eq0.false (next (goal.at.returns c).After-half_at) (omega arith) refl _ c.lower.ensures c.if-not-lower.false (numbers (goal.at.returns c).After-half_at) (λ h. absurd (h refl)), omega arith)
+returns c = sound _ _ _ _ c.requires.0 c.requires.1 c.requires.2 _ c.front_length-size.ensures c.if-size-eq0.false _ _ c.number_at.ensures c.half_at.ensures.0 _ c.lower.ensures c.if-not-lower.false

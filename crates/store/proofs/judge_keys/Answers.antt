@@ -1,14 +1,8 @@
-use Rattle.std.proofs.Common.{◌-◌, ◌≤◌, sym, arith, rules}
-use Rattle.store.specs.Pass.{name_in, Passing}
+use Rattle.std.proofs.Common.{sym, arith, rules}
 use Rattle.store.proofs.LowFront.{passed_none, passed-next, judged-bad, judged-rest}
 use Rattle.store.proofs.NextKey.{passing-none}
 use Rattle.store.proofs.Prefixes.{start-few}
 use Rattle.store.proofs.judge_keys.Goals as goal
-
--- the last key of the run
-run_is : (c : tie.After-read invariant-loop decreases-loop) → (let l = c.before.before.before.before.before.before in let s = l.before.before.before.before.before.before in
-    Passing (name_in s.args.start.now) s.args.words.now s.args.keys.now c.read.given.0.0 × (c.before.before.before.run_end.result ≤ c.read.given.0.0.end))
-run_is c = rw c.read.given.1 at c.before.before.judge-run.ensures
 
 pub prefix_of-prefix-requires : goal.prefix_of-prefix-requires
 prefix_of-prefix-requires c = search (rules, start-few)
@@ -23,13 +17,13 @@ pub returns-in_default : goal.returns-in_default
 returns-in_default c = judged-bad _ _ _ _ (sym (rw c.in_default.is at c.judge_run-read.ensures))
 
 pub low_after-low-requires : goal.low_after-low-requires
-low_after-low-requires c = (run_is (goal.at.low_after-low-requires c).In-Sound-2).0.tail_in
+low_after-low-requires c = (rw c.in-Sound.is at c.judge_run-read.ensures).0.tail_in
 
 pub loop-last-smaller : goal.loop-last-smaller
-loop-last-smaller c = let r = run_is (goal.at.loop-last-smaller c).In-Sound-2 in let e = c.run_end-stop.ensures in omega arith
+loop-last-smaller c = let r = rw c.in-Sound.is at c.judge_run-read.ensures in let e = c.run_end-stop.ensures in omega arith
 
 pub loop-last-preserved : goal.loop-last-preserved
-loop-last-preserved c = let r = run_is (goal.at.loop-last-preserved c).In-Sound-2 in
+loop-last-preserved c = let r = rw c.in-Sound.is at c.judge_run-read.ensures in
     (r.0, passed-next _ _ _ _ _ _ _ c.low_after-low.ensures r.0 c.loop-last.invariant.1)
 
 pub returns : goal.returns

@@ -1,6 +1,5 @@
-use Rattle.std.proofs.Common.{◌≡◌, ℕ, ◌+◌, ◌-◌, ◌≤◌, Bool, true, false, cond, arith}
+use Rattle.std.proofs.Common.{◌≡◌, ℕ, Bool, true, false, cond, arith}
 use Rattle.store.specs.declared.Judgement.TheVariants.{Damaged, Sound}
-use Rattle.store.specs.Pass.{name_in, Passing}
 use Rattle.store.proofs.NextKey.{passing-ended}
 use Rattle.store.proofs.judge_rest.Goals as goal
 
@@ -10,11 +9,6 @@ broken ok low e = rw e
 kept : (ok : Bool) (low : ℕ) → ok ≡ true → Sound low ≡ cond ok (Sound low) Damaged
 kept ok low e = rw e
 
--- the next key
-next-is : (c : tie.After-read invariant-loop decreases-loop) → (let l = c.before.before.before.before.before in let s = l.before.before.before in
-    Passing (name_in s.args.start.now) s.args.words.now s.args.keys.now c.read.given.0.0 × (l.loop.last.end + 1 ≤ c.read.given.0.0.end))
-next-is c = rw c.read.given.1 at c.before.before.any-key.ensures
-
 pub loop-last-init : goal.loop-last-init
 loop-last-init c = c.requires.1
 
@@ -22,10 +16,10 @@ pub returns-in_default : goal.returns-in_default
 returns-in_default c = broken _ _ (rw c.in_default.is at c.any_key-read.ensures)
 
 pub loop-last-smaller : goal.loop-last-smaller
-loop-last-smaller c = let n = next-is (goal.at.loop-last-smaller c).In-Sound-2 in omega arith
+loop-last-smaller c = let n = rw c.in-Sound.is at c.any_key-read.ensures in omega arith
 
 pub loop-last-preserved : goal.loop-last-preserved
-loop-last-preserved c = (next-is (goal.at.loop-last-preserved c).In-Sound-2).0
+loop-last-preserved c = (rw c.in-Sound.is at c.any_key-read.ensures).0
 
 pub returns : goal.returns
 returns c = kept _ _ (passing-ended _ _ _ _ c.loop-last.invariant c.loop-last-test.false)

@@ -13,6 +13,7 @@ returns-then-len-lt8 c = record {
   few = search rules;
   counts = λ h. let k = length c.args.start.now in rw (bits_are k c.if-len-lt8.true);
   is = λ h. c.low_at-pattern.ensures ∙ pattern_is _ _ prefix_most c.put.ensures.1 h;
+}
 
 pub returns : goal.returns
 returns c = record {
@@ -20,3 +21,4 @@ returns c = record {
   few = search rules;
   counts = λ h. let all : length c.args.start.now ≡ 8 = omega arith in rw all;
   is = λ h. c.low_at-pattern.ensures ∙ pattern_is _ _ prefix_most c.put.ensures.1 h;
+}

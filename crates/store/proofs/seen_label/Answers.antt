@@ -10,7 +10,6 @@ use Rattle.store.specs.Front.{after_length}
 use Rattle.store.specs.Pass.{tail_most, LabelIs, AfterIs, dot_seen}
 use Rattle.store.proofs.Front.{after-bad, after-told}
 use Rattle.store.proofs.seen_label.Goals as goal
-use Rattle.store.proofs.seen_label.Goals.{In-Ends-2}
 
 -- a label that keeps its rule
 module _ (z : ℕ) (l : LabelEnd) (read : LabelIs z (Ends l)) where
@@ -30,21 +29,17 @@ module _ (words : List ℕ) (t : Bytes) (room : tail_most ≤ length t) (l : Lab
   unseen : r ≡ false → after_length words t ≡ 0
   unseen e = after ∙ rw (← seen, e)
 
--- the label that was read
-label_is : (c : In-Ends-2) → LabelIs (zero_at c.args.t.now) (Ends c.in-Ends.label)
-label_is c = rw c.in-Ends.is at c.label_end-read.ensures
-
 pub returns-in_default : goal.returns-in_default
 returns-in_default c = after-bad _ _ (rw c.in_default.is at c.label_end-read.ensures)
 
 pub overflow_add-label : goal.overflow_add-label
-overflow_add-label c = omega (arith, short _ _ (label_is (goal.at.overflow_add-label c).In-Ends-2))
+overflow_add-label c = omega (arith, short _ _ (rw c.in-Ends.is at c.label_end-read.ensures))
 
 pub dot_seen-requires : goal.dot_seen-requires
-dot_seen-requires c = omega (arith, short _ _ (label_is (goal.at.dot_seen-requires c).In-Ends-2))
+dot_seen-requires c = omega (arith, short _ _ (rw c.in-Ends.is at c.label_end-read.ensures))
 
 pub returns-then-dot_seen : goal.returns-then-dot_seen
-returns-then-dot_seen c = told _ _ c.requires.0 _ (label_is (goal.at.returns-then-dot_seen c).In-Ends-2) _ c.dot_seen.ensures c.if-dot_seen.true
+returns-then-dot_seen c = told _ _ c.requires.0 _ (rw c.in-Ends.is at c.label_end-read.ensures) _ c.dot_seen.ensures c.if-dot_seen.true
 
 pub returns : goal.returns
-returns c = unseen _ _ c.requires.0 _ (label_is (goal.at.returns c).In-Ends-2) _ c.dot_seen.ensures c.if-dot_seen.false
+returns c = unseen _ _ c.requires.0 _ (rw c.in-Ends.is at c.label_end-read.ensures) _ c.dot_seen.ensures c.if-dot_seen.false

@@ -1,4 +1,4 @@
-use Rattle.std.proofs.Common.{◌-◌, rules}
+use Rattle.std.proofs.Common.{rules}
 use Rattle.store.proofs.Walk.{end-within, end_fits, walk-falls, while_left, while_passed, while_ended}
 use Rattle.store.proofs.walk_past.Goals as goal
 
