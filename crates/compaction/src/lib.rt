@@ -3,7 +3,6 @@
 #![tactic(auto)]
 
 ghost use Rattle.std.specs.Prelude.{◌≡◌, true, ◌≤◌, length};
-ghost use Rattle.wire.specs.Loans.{after};
 ghost use Rattle.dots.specs.Names.{name_most};
 ghost use Rattle.store.specs.Valid.{keys_fit};
 ghost use Rattle.compaction.specs.Compaction.{is_in, is_among, CanCompact, Drops};

@@ -3,7 +3,6 @@
 #![tactic(auto)]
 
 ghost use Rattle.std.specs.Prelude.{◌≡◌, true, ◌+◌, ◌-◌, ◌^◌, ◌≤◌, ◌<◌, length};
-ghost use Rattle.wire.specs.Loans.{before, after};
 ghost use Rattle.wire.specs.Lists.{any};
 ghost use Rattle.wire.specs.Bytes.{big_endian, put_at};
 ghost use Rattle.dots.specs.Names.{name_most, label_most};

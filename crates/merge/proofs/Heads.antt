@@ -119,7 +119,7 @@ pub record Head (name : Name) (xs ys : List Entry) (key : Bytes) : Type 0 where
 pub record BothEnd (xs ys : List Entry) (key : Bytes) : Type 0 where
   pub first-none : xs ≡ []
   pub second_none : ys ≡ []
-  pub no_key_lem : key ≡ []
+  pub no_key : key ≡ []
 
 module _ (name : Name) (key : Bytes) where
   abbrev HandedKey : List Entry → List Entry → Type 0
@@ -129,7 +129,7 @@ module _ (name : Name) (key : Bytes) where
   pub next-head : (xs ys : List Entry) → all entry_ok xs ≡ true → all entry_ok ys ≡ true → Ascending compare_entries xs → Ascending compare_entries ys → HandedKey xs ys
       → BothEnd xs ys key ⊎ Head name xs ys key
   unfolding all
-  next-head [] [] v w up up' h = inl (record { first-none = refl; second_none = refl; no_key_lem = h ∙ rw (first_alone name [], no_bytes name, take-nil) })
+  next-head [] [] v w up up' h = inl (record { first-none = refl; second_none = refl; no_key = h ∙ rw (first_alone name [], no_bytes name, take-nil) })
   next-head (x ∷ xs) [] v w up up' h =
       inr (record {
         head = x;

@@ -30,7 +30,7 @@ next_of d e = record { dot = cond (is_lt (compare_dots e d)) e d; first = not (i
 
 -- "if both list it under that label, or if one lists it and the other's clock hasn't seen it": listed by each, seen by each
 unfoldable pub kept_dot : Bool → Bool → Bool → Bool → Bool
-kept_dot here there Seen-Here seen-there = (here && there) || ((here && not seen-there) || (there && not Seen-Here))
+kept_dot here there seen_here seen_there = (here && there) || ((here && not seen_there) || (there && not seen_here))
 
 unfoldable pub keeps_next : Sides → NextDot → Bool
 keeps_next s next =

@@ -3,7 +3,6 @@
 #![tactic(auto)]
 
 ghost use Rattle.std.specs.Prelude.{◌≡◌, true, false, cond, ◌&&◌, [], ◌+◌, ◌-◌, ◌*◌, ◌^◌, ◌≤◌, ◌<◌, length, take};
-ghost use Rattle.wire.specs.Loans.{after};
 ghost use Rattle.wire.specs.Lists.{cons_if};
 ghost use Rattle.wire.specs.Bytes.{starts_with, put_at};
 ghost use Rattle.dots.specs.Names.{name_most, label_most};
@@ -11,7 +10,7 @@ ghost use Rattle.dots.specs.Dots.{ascending_dots};
 ghost use Rattle.dots.specs.Wire.{dots_of, dots_bytes, dot_size};
 ghost use Rattle.slots.specs.Slots.{Slotted};
 ghost use Rattle.clock.specs.Clock.{sees};
-ghost use Rattle.keys.specs.Key.{prefix_fixed, suffix_size};
+ghost use Rattle.keys.specs.Key.{suffix_size};
 ghost use Rattle.listing.specs.Listing.{is_live};
 ghost use Rattle.store.specs.Cut.{keys_of};
 ghost use Rattle.store.specs.Place.{length_while};

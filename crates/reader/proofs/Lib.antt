@@ -1,3 +1,2 @@
--- Walks: what the proofs by hand share. KeyEnds: what a caller knows of where a key ends.
-pub mod Walks
+-- KeyEnds: what a caller knows of where a key ends.
 pub mod KeyEnds

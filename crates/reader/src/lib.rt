@@ -36,7 +36,7 @@ fn next<'a>(r: Reader<'a>, n: usize) -> usize
     end_at(r.keys, r.at, n)
 }
 
-// The same at a place, by a reader that is made here: callers hold none, so that their proofs are no walks by hand.
+// The same at a place, by a reader that is made here.
 pub fn key_end(keys: &[u8], at: usize, n: usize) -> usize
     ensures { result ≡ key_end keys.now at n }
 {

@@ -1,4 +1,3 @@
-use Prim.Native.Nat.{◌-◌}
 use native.Mathlib.Omega.{arith}
 use Rattle.compaction.proofs.Compaction.{walk-started, key-within, key-room, turn-falls, walk-turned, walk-ended}
 use borrow.Author.Rules.{rules}

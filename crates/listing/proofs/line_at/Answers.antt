@@ -1,4 +1,3 @@
-use Prim.Native.Nat.{◌-◌}
 use Rattle.dots.specs.Wire.{dots_of}
 use Rattle.listing.proofs.LineWalks.{begun, key_fits, not_ended, few-dots, fewer-left, label-some, label_closed, keys-within, line-ends, line_goes_on}
 use borrow.Author.Rules.{rules}

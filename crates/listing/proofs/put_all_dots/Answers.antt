@@ -1,4 +1,3 @@
-use Prim.Native.Nat.{◌-◌}
 use Rattle.listing.proofs.PutLines.{size-within, dot-room, walk_start, every_end, all_room, walk-all}
 use borrow.Author.Rules.{rules}
 use Rattle.listing.proofs.put_all_dots.Goals as goal

@@ -1,4 +1,3 @@
-use Prim.Native.Nat.{◌-◌}
 use Rattle.listing.proofs.PutLines.{size-within, dot-room, walk_start, walk_end, walk-dead, put-room, walk-live}
 use borrow.Author.Rules.{rules}
 use Rattle.listing.proofs.put_dots.Goals as goal

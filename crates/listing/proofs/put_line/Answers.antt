@@ -6,7 +6,7 @@ use borrow.Author.Rules.{rules}
 use Rattle.listing.proofs.put_line.Goals as goal
 
 pub put_head-next-requires : goal.put_head-next-requires
-put_head-next-requires c = search (rules, label-fits, head-room)
+put_head-next-requires c = (search (rules, label-fits), omega (arith, c.requires.2.few, c.requires.2.within, c.requires.1), search (rules, head-room))
 
 pub slice_bounds-put_all_dots-end : goal.slice_bounds-put_all_dots-end
 slice_bounds-put_all_dots-end c = rw length-take (omega arith)

@@ -1,10 +1,8 @@
 use mathlib.Core.Path.{refl}
-use mathlib.Core.Logic.{⊎_elim}
-use Prim.Native.Nat.{◌-◌}
-use borrow.Author.Tests.{not-true, not-false}
 use Rattle.listing.proofs.Folds.{count_fits, part-short, part-stored, part-some, next-within, next-falls, carried, put-start, put-end, labels-fit, bytes_fit, part_room, put_full, put-none, put-more}
 use borrow.Author.Rules.{rules}
 use Rattle.listing.proofs.put_lines.Goals as goal
+use Rattle.listing.proofs.put_lines.Goals.{then-not-dry, else-not-dry}
 
 pub loop-at-init : goal.loop-at-init
 loop-at-init c = search (rules, put-start)
@@ -34,13 +32,14 @@ pub loop-at-smaller : goal.loop-at-smaller
 loop-at-smaller c = search (rules, next-falls)
 
 pub loop-at-preserved : goal.loop-at-preserved
-loop-at-preserved c = let inv = c.loop-at.invariant in
+loop-at-preserved c =
+    let inv = c.loop-at.invariant in
     let line = c.line_at-line.ensures in
     let size = c.listed_size-size.ensures in
-    ⊎_elim
-    (λ way. carried _ _ _ _ _ _ _ _ _ _ _ way.6 way.7 (put-more _ _ _ _ _ _ _ _ _ inv _ line _ size c.if-out-bytes.false (not-true _ way.0.taken) _ _ _ way.3.ensures refl))
-    (λ way. carried _ _ _ _ _ _ _ _ _ _ _ way.1 way.2 (put-none _ _ _ _ _ _ _ _ _ inv _ line _ size c.if-out-bytes.false (not-false _ way.0.left)))
-    c.if-not-dry.branch
+    elim c.if-not-dry.branch [
+      | then-not-dry w ↦ carried _ _ _ _ _ _ _ _ _ _ _ w.out-is w.labels-is (put-more _ _ _ _ _ _ _ _ _ inv _ line _ size c.if-out-bytes.false w.if-not-dry.true _ _ _ w.put_listed-labels.ensures refl)
+      | else-not-dry w ↦ carried _ _ _ _ _ _ _ _ _ _ _ w.out-is w.labels-is (put-none _ _ _ _ _ _ _ _ _ inv _ line _ size c.if-out-bytes.false w.if-not-dry.false)
+    ]
 
 pub returns : goal.returns
 returns c = search (rules, put-end)

@@ -1,7 +1,7 @@
 -- A dry run tells whether all lines fit; an output as long as the keys has room for them.
 use Prim.Native.Nat.{ℕ, ◌≤◌}
-use mathlib.Core.Path.{◌≡◌, refl, sym, ap, ◌∙◌, subst}
-use mathlib.Core.Logic.{◌⊎◌, inl, inr, ⊎_elim}
+use mathlib.Core.Path.{◌≡◌, refl, sym, ◌∙◌, subst}
+use mathlib.Core.Logic.{◌⊎◌, inl, inr}
 use mathlib.Core.Bool.{Bool, true, false, ◌&&◌}
 use mathlib.Core.List.{List}
 use native.Mathlib.Omega.{arith}
@@ -18,7 +18,7 @@ use Rattle.listing.specs.Listing.{lines_of_live, key_lines, listing_bytes, Store
 use Rattle.listing.proofs.Folds.{all_fit, not_all_fit, none-wanted, as_wanted, listing-within}
 use borrow.Author.Rules.{rules}
 use Rattle.listing.proofs.put_wanted.Goals as goal
-use Rattle.listing.proofs.put_wanted.Goals.{After-put_lines-arg-2-1}
+use Rattle.listing.proofs.put_wanted.Goals.{then-all-out+else-counted, else-all-out}
 
 module _ (ls : List Line) (out out' : Bytes) (all : Bool) (r : LinesPut) (dry : PutsOrCounts true ls out out' r) where
   too_short : (room : ℕ) → (all && ltb (length out) room) ≡ true → r.more ≡ true → PutsWanted all ls out out' (record { bytes = 0; labels = 0; more = true })
@@ -41,15 +41,14 @@ record Ready (ls : List Line) (all : Bool) (out out' : Bytes) : Type 0 where
 wanted : (ls : List Line) (all : Bool) (out out' out'' : Bytes) (r : LinesPut) → Ready ls all out out' → PutsFitting ls out' out'' r → PutsWanted all ls out out'' r
 wanted ls all out out' out'' r ready p = as_wanted ls out all out'' r ready.room (subst (λ (s : Bytes). PutsFitting ls s out'' r) ready.same p)
 
-ready : (c : After-put_lines-arg-2-1) → Ready (key_lines c.args.n c.args.keys.now c.args.tombstone.now) c.args.all c.args.out.now c.if-all-out.out
-ready c = ⊎_elim (λ way. record { same = way.6 ∙ way.2.ensures.counts refl; room = counted _ _ _ _ _ way.2.ensures way.5.left })
-    (λ way. record { same = way.1; room = as_long _ _ _ _ _ c.requires.2 way.0.left }) c.if-all-out.branch
-
 pub returns-then-counted : goal.returns-then-counted
 returns-then-counted c = search (rules, too_short)
 
-pub shape_of-out : goal.shape_of-out
-shape_of-out c = let same = ap length (ready (goal.at.shape_of-out c).After-put_lines-arg-2-1).same in search rules
-
 pub returns : goal.returns
-returns c = wanted _ _ _ _ _ _ (ready (goal.at.returns c).After-put_lines-arg-2-1) (c.put_lines.ensures.puts refl)
+returns c =
+    let room : Ready (key_lines c.args.n c.args.keys.now c.args.tombstone.now) c.args.all c.args.out.now c.if-all-out.out =
+    elim c.if-all-out.branch [
+      | then-all-out+else-counted w ↦ record { same = w.out-is ∙ w.put_lines-counted.ensures.counts refl; room = counted _ _ _ _ _ w.put_lines-counted.ensures w.if-counted.false }
+      | else-all-out w ↦ record { same = w.out-is; room = as_long _ _ _ _ _ c.requires.2 w.if-all-out.false }
+    ] in
+    wanted _ _ _ _ _ _ room (c.put_lines.ensures.puts refl)

@@ -1,4 +1,3 @@
-use Prim.Native.Nat.{◌-◌}
 use native.Mathlib.Omega.{arith}
 use Rattle.merge.proofs.Runs.{start-long, label-short, run-start, run_end, run-stops, run_goes_on}
 use borrow.Author.Rules.{rules}

@@ -5,7 +5,6 @@ use mathlib.Core.List.{[]}
 use Prim.Native.Nat.{ℕ}
 use native.Mathlib.Omega.{arith}
 use lib.ListN.{length}
-use borrow.Author.Tests.{not-true, not-false}
 use Rattle.wire.specs.Lists.{cons_if}
 use Rattle.wire.specs.Bytes.{Bytes, put_at}
 use Rattle.dots.specs.declared.Dot.{Dot}
@@ -30,15 +29,15 @@ module _ (kept dry : Bool) (out : Bytes) (at : ℕ) (d : Dot) where
   kept_put t f out' bytes e put = rw (t, f) (refl, put ∙ ap (put_at out at) (e ∙ sym (one_dot d)))
 
 pub returns-then-not-kept : goal.returns-then-not-kept
-returns-then-not-kept c = not_kept c.args.kept c.args.dry c.args.out.now c.args.at c.args.dot (not-true c.args.kept c.if-not-kept.true)
+returns-then-not-kept c = not_kept c.args.kept c.args.dry c.args.out.now c.args.at c.args.dot c.if-not-kept.true
 
 pub returns-then-dry : goal.returns-then-dry
-returns-then-dry c = kept_dry c.args.kept c.args.dry c.args.out.now c.args.at c.args.dot (not-false c.args.kept c.if-not-kept.false) c.if-dry.true
+returns-then-dry c = kept_dry c.args.kept c.args.dry c.args.out.now c.args.at c.args.dot c.if-not-kept.false c.if-dry.true
 
 pub put-requires : goal.put-requires
-put-requires c = let room = c.requires (not-false c.args.kept c.if-not-kept.false) c.if-dry.false in
+put-requires c = let room = c.requires c.if-not-kept.false c.if-dry.false in
     omega (arith, ap length c.dot_bytes-bytes.ensures, length-dot c.args.dot)
 
 pub returns : goal.returns
-returns c = kept_put c.args.kept c.args.dry c.args.out.now c.args.at c.args.dot (not-false c.args.kept c.if-not-kept.false) c.if-dry.false _ _
+returns c = kept_put c.args.kept c.args.dry c.args.out.now c.args.at c.args.dot c.if-not-kept.false c.if-dry.false _ _
     c.dot_bytes-bytes.ensures c.put.ensures.1
