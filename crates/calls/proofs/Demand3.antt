@@ -123,7 +123,7 @@ follows-held name ms x n f = record {
 keys_of : (n n' : Name) (es : List Entry) → ((e : Entry) → e ∈ es → n ≡ n') → store_bytes n es ≡ store_bytes n' es
 unfolding store_bytes
 keys_of n n' [] h = refl
-keys_of n n' (e ∷ es) h = rw (h e (Memᴰ.head refl))
+keys_of n n' (e ∷ es) h = ap (λ (m : Name). store_bytes m (e ∷ es)) (h e (Memᴰ.head refl))
 
 alike-held : (x y : SizedHeld)
     → ((past : Bytes) → Accepted x.0 (compact_input past) → (e : Entry) → e ∈ (view_of (step x.0 (compact_input past))).keys → name_of x.0.state ≡ name_of y.0.state)
