@@ -2,7 +2,6 @@
 
 #![tactic(auto)]
 
-
 // A set name: its first len bytes; the others are 0.
 #[derive(Clone, Copy)]
 pub struct SetName {
