@@ -1,10 +1,10 @@
-//! The exported functions have one signature in `crates/capi`, in `include/ptl.h` and in the
+//! The exported functions have one signature in `crates/capi_c`, in `include/ptl.h` and in the
 //! wrapper's `ffi.rs`: the same names, parameters in the same order, types and results.
 
 use std::collections::{BTreeMap, BTreeSet};
 use std::fs;
 
-const CAPI: &str = concat!(env!("CARGO_MANIFEST_DIR"), "/../../crates/capi/src/lib.rt");
+const CAPI: &str = concat!(env!("CARGO_MANIFEST_DIR"), "/../../crates/capi_c/src/lib.rt");
 const HEADER: &str = concat!(env!("CARGO_MANIFEST_DIR"), "/../../include/ptl.h");
 const WRAPPER: &str = concat!(env!("CARGO_MANIFEST_DIR"), "/src/ffi.rs");
 
@@ -56,9 +56,9 @@ fn rust_functions(text: &str, mark: &str, parameter: fn(&str, &str) -> Vec<Strin
     functions
 }
 
-/// The exported functions of `capi`.
+/// The exported functions of `capi_c`.
 fn of_capi(text: &str) -> Functions {
-    rust_functions(text, "#[no_mangle]\npub extern \"C\" fn ", |name, kind| {
+    rust_functions(text, "#[unsafe(no_mangle)]\npub extern \"C\" fn ", |name, kind| {
         let plain = kind.replace("'a ", "");
         match plain.as_str() {
             "&[u8]" => slice(name, "const"),
@@ -157,7 +157,7 @@ fn differences(capi: &str, header: &str, wrapper: &str) -> Vec<String> {
 fn the_three_agree() {
     let (capi, header, wrapper) = (text(CAPI), text(HEADER), text(WRAPPER));
     assert_eq!(differences(&capi, &header, &wrapper), Vec::<String>::new());
-    let exported = capi.matches("#[no_mangle]").count();
+    let exported = capi.matches("#[unsafe(no_mangle)]").count();
     assert_eq!(of_capi(&capi).len(), exported);
     let add = &of_header(&header)["ptl_own_add"];
     assert_eq!(add[4..6], ["label: *const u8", "label_len: usize"]);
@@ -199,7 +199,7 @@ fn wrong_edits_are_found() {
         (0, "listed: &mut bool", "listed: &mut u8"),
         (
             0,
-            "#[no_mangle]\npub extern \"C\" fn ptl_compact",
+            "#[unsafe(no_mangle)]\npub extern \"C\" fn ptl_compact",
             "pub fn ptl_compact",
         ),
         (0, "message: &[u8]) -> u8", "message: &[u8]) -> u64"),

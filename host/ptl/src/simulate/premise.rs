@@ -1,5 +1,5 @@
 //! The premise of demand 3, checked at every step of the day, in the words of
-//! `crates/replica/specs/Network.antt`: the boxes are a workshop (`setsUp`, `goesOn`), and so a
+//! `crates/replica/specs/Network.antt`: the boxes are a workshop (`sets_up`, `goes_on`), and so a
 //! network (`made-once`, `unforged`). It is told of each step, and says which clause the step broke.
 
 use super::floor::Floor;
