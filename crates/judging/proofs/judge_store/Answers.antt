@@ -15,7 +15,5 @@ fits name size short = omega arith
 front : (name : SetName) → length name.bytes ≡ name_most → name.len ≤ name_most → name.len ≡ length (take name.len name.bytes)
 front name size short = front-size name.bytes name.len (fits name size short)
 
-slice-aggregate-judge c = let s = c.before.before.before.before in let size : length s.args.name.bytes ≡ name_most = search rules in front s.args.name size s.requires.0
-
 pub slice_bounds-bytes-end : goal.slice_bounds-bytes-end
 slice_bounds-bytes-end c = search (rules, fits)

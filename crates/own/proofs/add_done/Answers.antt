@@ -1,17 +1,13 @@
 -- The message is written with the next dot, the key put, and context and dot are joined; the state is made of them.
-use Prim.Native.Nat.{ℕ}
 use mathlib.Core.Path.{refl, sym, subst}
 use native.Mathlib.Omega.{arith}
-use lib.ListN.{get_or}
-use mir.Syntax.{w8}
-use mir.Val.{Fits}
 use Rattle.dots.specs.declared.Dot.{Dot}
 use Rattle.calls.specs.State.{head_of}
 use Rattle.steps.specs.Tests.{MayApply}
 use Rattle.steps.proofs.Answers.{kept, label-short}
 use Rattle.steps.proofs.Adds.{may-store, may_join_add, apply_leaves}
 use Rattle.own.proofs.OwnAdd.{add_done_leaves}
-use borrow.Author.Rules.{elem_fits_field}
+use borrow.Author.Rules.{rules}
 use Rattle.own.proofs.add_done.Goals as goal
 use Rattle.own.proofs.add_done.Goals.{After-next_dot-dot}
 
@@ -32,12 +28,8 @@ pub store_add-used-requires : goal.store_add-used-requires
 store_add-used-requires c = may-store c.args.state c.args.store.now c.args.label.now c.args.context.now c.next_dot-dot.result (applies (goal.at.store_add-used-requires c).After-next_dot-dot) (head_of c.args.state) refl _ c.requires.front
 
 pub join_add-count-requires : goal.join_add-count-requires
-join_add-count-requires c = ? -- unknown step good at Start
-    -- let e = next (put (stored c)) in
-    --     let s = first e in
-    --     let st = s.args.state in
-    --     let small : (j : ℕ) → Fits w8 (get_or st.tombstone.bytes j 0) = λ j. elem_fits_field w8 w8 st.tombstone.bytes s.good.0.1.1.1.1.0.1.1.0.0 j s.good.0.1.1.1.1.0.1.1.0.1.1 tt in
-    --     may_join_add st s.args.store.now s.args.label.now s.args.context.now e.next-dot.result (applies e) small
+join_add-count-requires c =
+    may_join_add c.args.state c.args.store.now c.args.label.now c.args.context.now c.next_dot-dot.result (applies (goal.at.join_add-count-requires c).After-next_dot-dot) (λ j. search rules)
 
 pub returns : goal.returns
 returns c = add_done_leaves c.args.state c.args.store.now c.args.label.now c.args.context.now c.args.out.now _ c.next_dot-dot.ensures _ _ _ _

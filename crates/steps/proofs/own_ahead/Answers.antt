@@ -1,4 +1,3 @@
-use Prim.Native.Nat.{◌-◌}
 use native.Mathlib.Omega.{arith}
 use Rattle.steps.specs.Tests.{ahead_of}
 use Rattle.steps.proofs.DotLoops.{any-start, any-turn, any-end}

@@ -1,4 +1,3 @@
-use Prim.Native.Nat.{◌-◌}
 use native.Mathlib.Omega.{arith}
 use Rattle.dots.specs.Wire.{dots_of}
 use Rattle.steps.specs.Tests.{joins_tombstone}
