@@ -31,7 +31,7 @@ use Rattle.calls.specs.Damage.{state_name_ok, tombstone_ok, damaged}
 use Rattle.calls.specs.Effect.{state_of, store_of}
 use Rattle.calls.specs.Calls.{set_up, own_add_result, own_remove_result, take_in_result, list_result, page_result, more_follow, merge_result, lookup_result, compact_result}
 use Rattle.calls.specs.Image.{rows_bytes, image_rest, image_under}
-use Rattle.calls.specs.ImageRead.{version_ok as imageVersionOk, layout_of as imageLayoutOf, shape_ok as imageShapeOk, crc_ok, clock_in, state_at, free_of}
+use Rattle.calls.specs.ImageRead.{version_ok as image_version_ok, layout_of as image_layout_of, shape_ok as image_shape_ok, crc_ok, clock_in, state_at, free_of}
 use Rattle.calls.specs.HandOff.{image_result, load_result}
 use Rattle.calls.specs.Sequence.{result_of, run, call_of, events, message_bytes_of, traffic}
 use Rattle.calls.specs.Cases.{dot, answers_of, last_output, shown, StarredCases}
@@ -43,7 +43,7 @@ use Rattle.calls.specs.Premises.{PremisesMet, TwoLabels}
 
 -- all that the cases compute with: whoever unfolds this unfolds each of these
 computing : Unit {0}
-unfolding keep any all compare_lists member ascends_from ascends insert insert_all big_endian from_big_endian zero_at text_ok label_prints dot_ok ascending_dots dot_bytes dots_bytes dots_at dots_of prepend lines_of test_bit seen well_formed trailing_ones settled marked join total known climb unbroken window_events too_far row_at with_row sees all_to rows_ok clock_ok join_dot join_each join_all counters_of near names_ok key_counter_ok after_type key_bytes fields_as is_key entry_key key_entry message_bytes layout_of mark_ok version_ok shape_ok message_at name_of message_of end_to_end store_bytes key_length keys_after key_label key_dot entries_in used_ok store_ok listing_bytes fitting first_fits apply compacted listing found effect view state_name_ok tombstone_ok damaged state_of store_of set_up own_add_result own_remove_result take_in_result list_result page_result more_follow lookup_result compact_result result_of run answers_of last_output shown write_answer read_answer adds_of note_actor note_own_add history_from rule_listing messages_of call_of events message_bytes_of traffic mathlib.Core.List.flat_map merged_entries merge_result bit_step bit_steps byte_step register crc_of unused rows_bytes image_rest image_under imageVersionOk imageLayoutOf imageShapeOk crc_ok clock_in state_at free_of image_result load_result is_own_add pairs_from
+unfolding keep any all compare_lists member ascends_from ascends insert insert_all big_endian from_big_endian zero_at text_ok label_prints dot_ok ascending_dots dot_bytes dots_bytes dots_at dots_of prepend lines_of test_bit seen well_formed trailing_ones settled marked join total known climb unbroken window_events too_far row_at with_row sees all_to rows_ok clock_ok join_dot join_each join_all counters_of near names_ok key_counter_ok after_type key_bytes fields_as is_key entry_key key_entry message_bytes layout_of mark_ok version_ok shape_ok message_at name_of message_of end_to_end store_bytes key_length keys_after key_label key_dot entries_in used_ok store_ok listing_bytes fitting first_fits apply compacted listing found effect view state_name_ok tombstone_ok damaged state_of store_of set_up own_add_result own_remove_result take_in_result list_result page_result more_follow lookup_result compact_result result_of run answers_of last_output shown write_answer read_answer adds_of note_actor note_own_add history_from rule_listing messages_of call_of events message_bytes_of traffic mathlib.Core.List.flat_map merged_entries merge_result bit_step bit_steps byte_step register crc_of unused rows_bytes image_rest image_under image_version_ok image_layout_of image_shape_ok crc_ok clock_in state_at free_of image_result load_result is_own_add pairs_from
 computing = tt
 
 pub starred_cases : StarredCases

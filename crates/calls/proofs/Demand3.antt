@@ -16,10 +16,10 @@ use Rattle.messages.specs.Read.{message_of}
 use Rattle.store.specs.Cut.{store_bytes}
 use Rattle.listing.specs.Listing.{line_size, listing_bytes}
 use Rattle.replica.specs.Page.{page_after, page_more}
-use Rattle.replica.specs.Machine.{compact, effect, compacted, listing, found, messages_of as machineMessages}
+use Rattle.replica.specs.Machine.{compact, effect, compacted, listing, found, messages_of as machine_messages}
 use Rattle.replica.specs.Rule.{History, no_history, noted, history_from, pairs, live_pairs, rule_listing, OneLabelPerDot}
 use Rattle.replica.specs.Read.{read_of, merged_lines}
-use Rattle.replica.specs.Demand3.{Life, end_of as lifeEnd, accepted, traffic_of as lifeTraffic, ListsJust as MachineLists, Follows as MachineFollows, ListAlike as MachineAlike, Agree as MachineAgree}
+use Rattle.replica.specs.Demand3.{Life, end_of as life_end, accepted, traffic_of as life_traffic, ListsJust as MachineLists, Follows as MachineFollows, ListAlike as MachineAlike, Agree as MachineAgree}
 use Rattle.replica.proofs.Listings.{fewer, is-listing}
 use Rattle.replica.proofs.RowClock.{controllers_follow, controllers_agree, controllers_merge, controllers_exchange}
 use Rattle.calls.specs.State.{clock_model, name_of, view}
@@ -172,7 +172,7 @@ append-none (x ∷ xs) ys e = absurd (cons≢nil e)
 
 -- where no message was exchanged, the rule has none
 nothing-noted : (n : History) (h : Held) (i : Input) (b : Bool) → cond b (message_bytes_of h i) [] ≡ [] → (cond b (noted n (call_of i)) n).messages ≡ n.messages
-unfolding message_bytes_of call_of machineMessages
+unfolding message_bytes_of call_of machine_messages
 nothing-noted n h i false e = refl
 nothing-noted n h (add_input label context past out) true e = absurd (cons≢nil e)
 nothing-noted n h (remove_input context past out) true e = absurd (cons≢nil e)
@@ -216,7 +216,7 @@ module _ (c : Controlled) where
   life_of = record { actor = actor_of c.actor; start = start_of c; fresh = start-view c; calls = c.calls }
 
   reached : SizedHeld
-  reached = lifeEnd clock_model controller life_of
+  reached = life_end clock_model controller life_of
 
   reached-is : reached.0 ≡ end_of c
   unfolding reached
@@ -248,7 +248,7 @@ module _ (c d : Controlled) (same : SameMembers (traffic_of c) (traffic_of d)) w
   machines_agree : MachineAgree clock_model controller both (reached c) (reached d)
   unfolding reached
   machines_agree =
-      let traffics : SameMembers (lifeTraffic clock_model controller (life_of c)) (lifeTraffic clock_model controller (life_of d)) =
+      let traffics : SameMembers (life_traffic clock_model controller (life_of c)) (life_traffic clock_model controller (life_of d)) =
       rw (traffic-same (start_of c) c.calls, traffic-same (start_of d) d.calls) (same-decoded (traffic_of c) (traffic_of d) same) in
       subst (λ ms. MachineAgree clock_model controller ms (reached c) (reached d)) (λ i. accepted-is c i ++ accepted-is d i) (controllers_agree controller (life_of c) (life_of d) traffics)
 

@@ -12,7 +12,7 @@ use Rattle.dots.specs.Wire.{dots_of}
 use Rattle.dots.specs.Message.{Message, add, remove}
 use Rattle.messages.specs.Message.{names_ok, dots_ok, message_ok, message_bytes}
 use Rattle.wire.proofs.Tests.{both_left, both_right}
-use Rattle.messages.specs.Read.{name_of as messageName, message_of}
+use Rattle.messages.specs.Read.{name_of as message_name, message_of}
 use Rattle.messages.proofs.RoundTrip.{read-written, passed}
 use Rattle.replica.specs.Machine.{take_in}
 use Rattle.calls.specs.declared.State.{State}
@@ -36,9 +36,9 @@ module _ (st : State) (m : Message) (ok : message_ok (name_of st) m ≡ true) wh
     received =
         let r = read-written (name_of st) m ok in
         let p = passed (message_bytes (name_of st) m) (ap number_of r.0) in
-        let names : names_ok (messageName (message_bytes (name_of st) m)) (message_of (message_bytes (name_of st) m)) ≡ true = both_left _ (dots_ok (message_of (message_bytes (name_of st) m))) p.rules in
-        let dots : dots_ok (message_of (message_bytes (name_of st) m)) ≡ true = both_right (names_ok (messageName (message_bytes (name_of st) m)) (message_of (message_bytes (name_of st) m))) _ p.rules in
-        let ours : compare_is_eq (compare_bytes (messageName (message_bytes (name_of st) m)) (name_of st')) ≡ true = rw (r.1, same, bytes_lawful.self (name_of st)) in
+        let names : names_ok (message_name (message_bytes (name_of st) m)) (message_of (message_bytes (name_of st) m)) ≡ true = both_left _ (dots_ok (message_of (message_bytes (name_of st) m))) p.rules in
+        let dots : dots_ok (message_of (message_bytes (name_of st) m)) ≡ true = both_right (names_ok (message_name (message_bytes (name_of st) m)) (message_of (message_bytes (name_of st) m))) _ p.rules in
+        let ours : compare_is_eq (compare_bytes (message_name (message_bytes (name_of st) m)) (name_of st')) ≡ true = rw (r.1, same, bytes_lawful.self (name_of st)) in
         rw (p.marked, p.version, p.shaped, names, dots, ours, r.2)
 
     taken : take_in_result st' store' written ≡ decided st' store' [] (receiver_refusals st' store' m) (performed st' store' [] (take_in m) [])

@@ -16,7 +16,7 @@ use Rattle.dots.specs.Dots.{actor_most}
 use Rattle.dots.specs.Wire.{dot_size}
 use Rattle.clock.specs.Clock.{clock_words}
 use Rattle.messages.specs.Message.{front_fixed}
-use Rattle.messages.specs.Read.{mark_ok, version_ok as messageVersionOk}
+use Rattle.messages.specs.Read.{mark_ok, version_ok as message_version_ok}
 use Rattle.messages.proofs.RoundTrip.{front-back}
 use Rattle.crc.specs.Crc.{crc_of}
 use Rattle.calls.specs.Image.{image_kind, image_version, window_bytes, row_size, rows_bytes, image_front, image_rest, with_crc}
@@ -137,7 +137,7 @@ body_in s =
 
 module _ (s : Bytes) (small : AreBytes s) (marked : mark_ok s ≡ true) (version : version_ok s ≡ true) (shaped : shape_ok s (layout_of s) ≡ true) where
   body_front : body_in s ≡ take (length s - 4) s
-  unfolding layout_of version_ok messageVersionOk
+  unfolding layout_of version_ok message_version_ok
   body_front =
       let n : ℕ = byte_at s 6 in
       let rows_at : ℕ = front_fixed + n + 1 in

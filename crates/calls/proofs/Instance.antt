@@ -18,7 +18,7 @@ use Rattle.dots.specs.Entries.{Line}
 use Rattle.dots.specs.Message.{Message, add}
 use Rattle.dots.specs.Wire.{dots_of}
 use Rattle.clock.specs.Clock.{unused}
-use Rattle.messages.specs.Read.{name_of as messageName, message_of}
+use Rattle.messages.specs.Read.{name_of as message_name, message_of}
 use Rattle.messages.proofs.RoundTrip.{read-written}
 use Rattle.listing.specs.Listing.{listing_bytes}
 use Rattle.replica.specs.Machine.{Controller, next_dot, effect, exchanged, allowed, messages_of, reads, compact, compacted, handed_off}
@@ -49,7 +49,7 @@ pub record IsMachine (h : Held) (i : Input) : Type 0 where
   pub exchanges : messages h i ≡ exchanged clock_model (view_of h) (call_of i)
   pub guarded : T (allowed clock_model (view_of h) (call_of i))
   -- its messages are of this set
-  pub named : (s : Bytes) → s ∈ message_bytes_of h i → messageName s ≡ name_of h.state
+  pub named : (s : Bytes) → s ∈ message_bytes_of h i → message_name s ≡ name_of h.state
 
 -- what is put out is the message
 pub put-out : (message out : Bytes) → take (length message) (message ++ drop (length message) out) ≡ message
@@ -72,7 +72,7 @@ module _ (h : Held) (sized : Sized h) (past : Bytes) where
       → Sized (held_after (performed h.state (h.used ++ past) out (call_of i) message))
       → T (allowed clock_model (view h.state (h.used ++ past)) (call_of i))
       → messages h i ≡ exchanged clock_model (view_of h) (call_of i)
-      → ((s : Bytes) → s ∈ message_bytes_of h i → messageName s ≡ name_of h.state)
+      → ((s : Bytes) → s ∈ message_bytes_of h i → message_name s ≡ name_of h.state)
       → IsMachine h i
   unfolding state_of
   works i out message done viewed sizes allows exchanges named = record {
@@ -96,7 +96,7 @@ module _ (h : Held) (sized : Sized h) (past : Bytes) where
       works (add_input label context past out) out message w.result_is (applied-view h.state store _ w.applies out message)
       (applied-sized h.state store _ w.applies sized.arrays out message) w.applies.allows
       (ap (λ s. message_of s ∷ []) put ∙ ap (λ m. m ∷ []) read.2 ∙ ap (λ v. add label (next_dot clock_model v) (dots_of context) ∷ []) same_view)
-      (λ s k. ap messageName (Memᴰ.eq_of_singleton k ∙ put) ∙ read.1)
+      (λ s k. ap message_name (Memᴰ.eq_of_singleton k ∙ put) ∙ read.1)
 
   remove-is : (context out : Bytes) → answer_of h (remove_input context past out) ≡ 0 → IsMachine h (remove_input context past out)
   unfolding result_of call_of message_bytes_of messages_of
@@ -109,7 +109,7 @@ module _ (h : Held) (sized : Sized h) (past : Bytes) where
       works (remove_input context past out) out message w.result_is (applied-view h.state store _ w.applies out message)
       (applied-sized h.state store _ w.applies sized.arrays out message) w.applies.allows
       (ap (λ s. message_of s ∷ []) put ∙ ap (λ m. m ∷ []) read.2)
-      (λ s k. ap messageName (Memᴰ.eq_of_singleton k ∙ put) ∙ read.1)
+      (λ s k. ap message_name (Memᴰ.eq_of_singleton k ∙ put) ∙ read.1)
 
   take_in_is : (message : Bytes) → answer_of h (message_input message past) ≡ 0 → IsMachine h (message_input message past)
   unfolding result_of call_of message_bytes_of messages_of
@@ -117,7 +117,7 @@ module _ (h : Held) (sized : Sized h) (past : Bytes) where
       let store : Bytes = h.used ++ past in
       let w = take_in_accepted h.state store message acc in
       works (message_input message past) [] [] w.result_is (applied-view h.state store _ w.applies [] []) (applied-sized h.state store _ w.applies sized.arrays [] []) w.applies.allows refl
-      (λ s k. ap messageName (Memᴰ.eq_of_singleton k) ∙ w.named)
+      (λ s k. ap message_name (Memᴰ.eq_of_singleton k) ∙ w.named)
 
   compact-is : answer_of h (compact_input past) ≡ 0 → IsMachine h (compact_input past)
   unfolding result_of call_of message_bytes_of messages_of effect allowed compacted view

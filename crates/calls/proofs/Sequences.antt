@@ -20,10 +20,10 @@ use Rattle.dots.specs.Dots.{actor_of, actor_ok}
 use Rattle.dots.specs.Wire.{dots_bytes, dots_at, dots_of}
 use Rattle.dots.proofs.Table.{none-holds}
 use Rattle.clock.specs.Clock.{clock_words}
-use Rattle.messages.specs.Read.{name_of as messageName, message_of}
+use Rattle.messages.specs.Read.{name_of as message_name, message_of}
 use Rattle.store.specs.Cut.{keys_after, entries_in}
-use Rattle.replica.specs.Machine.{set_up as machineSetUp}
-use Rattle.replica.specs.Demand3.{run as runMachine, events as eventsMachine, traffic as trafficMachine}
+use Rattle.replica.specs.Machine.{set_up as machine_set_up}
+use Rattle.replica.specs.Demand3.{run as run_machine, events as events_machine, traffic as traffic_machine}
 use Rattle.calls.specs.State.{clock_model, name_of, view}
 use Rattle.calls.specs.Refusals.{bad_actor, bad_name}
 use Rattle.calls.specs.Calls.{set_up, set_up_refusals, fresh_state}
@@ -35,18 +35,18 @@ use Rattle.calls.proofs.Instance.{is-machine, SizedHeld, stepped, controller}
 
 -- ---- what the machine's theorem calls a run is a run of the calls on bytes
 
-pub run-same : (x : SizedHeld) (is : List Input) → (runMachine clock_model controller x is).0 ≡ run x.0 is
-unfolding run runMachine
+pub run-same : (x : SizedHeld) (is : List Input) → (run_machine clock_model controller x is).0 ≡ run x.0 is
+unfolding run run_machine
 run-same x [] = refl
 run-same x (i ∷ is) = run-same (stepped x i) is
 
-pub events-same : (x : SizedHeld) (is : List Input) → eventsMachine clock_model controller x is ≡ events x.0 is
-unfolding events eventsMachine
+pub events-same : (x : SizedHeld) (is : List Input) → events_machine clock_model controller x is ≡ events x.0 is
+unfolding events events_machine
 events-same x [] = refl
 events-same x (i ∷ is) = rw (events-same (stepped x i) is)
 
-pub traffic-same : (x : SizedHeld) (is : List Input) → trafficMachine clock_model controller x is ≡ map message_of (traffic x.0 is)
-unfolding traffic trafficMachine
+pub traffic-same : (x : SizedHeld) (is : List Input) → traffic_machine clock_model controller x is ≡ map message_of (traffic x.0 is)
+unfolding traffic traffic_machine
 traffic-same x [] = refl
 traffic-same x (i ∷ is) =
     rw (traffic-same (stepped x i) is, by (accepts x.0 i) (message_bytes_of x.0 i))
@@ -71,12 +71,12 @@ run-name x [] = refl
 run-name x (i ∷ is) = run-name (stepped x i) is ∙ name-stays x i
 
 -- messages exchanged are of the set
-pub traffic-named : (x : SizedHeld) (is : List Input) (s : Bytes) → s ∈ traffic x.0 is → messageName s ≡ name_of x.0.state
+pub traffic-named : (x : SizedHeld) (is : List Input) (s : Bytes) → s ∈ traffic x.0 is → message_name s ≡ name_of x.0.state
 unfolding traffic
 traffic-named x [] s k = absurd (Memᴰ.not-nil k)
 traffic-named x (i ∷ is) s k = ⊎_elim (by (accepts x.0 i) refl) (λ k'. traffic-named (stepped x i) is s k' ∙ name-stays x i) (member-append.0 k)
   where
-    by : (b : Bool) → accepts x.0 i ≡ b → s ∈ cond b (message_bytes_of x.0 i) [] → messageName s ≡ name_of x.0.state
+    by : (b : Bool) → accepts x.0 i ≡ b → s ∈ cond b (message_bytes_of x.0 i) [] → message_name s ≡ name_of x.0.state
     by true e m = (is-machine x.0 x.1 i (eqb-true _ 0 e)).named s m
     by false e m = absurd (Memᴰ.not-nil m)
 
@@ -104,7 +104,7 @@ module _ (c : Controlled) where
   abbrev pub start_of : SizedHeld
   start_of = (started c.actor c.name, start-sized)
 
-  pub start-view : view_of (started c.actor c.name) ≡ machineSetUp clock_model (actor_of c.actor)
+  pub start-view : view_of (started c.actor c.name) ≡ machine_set_up clock_model (actor_of c.actor)
   unfolding view entries_in keys_after dots_of dots_at
   start-view = rw fresh-state
 

@@ -24,7 +24,7 @@ use Rattle.dots.proofs.Rules.{prints-ok}
 use Rattle.clock.specs.Clock.{sees}
 use Rattle.keys.specs.Entry.{entry_ok}
 use Rattle.messages.specs.Message.{names_ok, dots_ok}
-use Rattle.messages.specs.Read.{name_of as messageName, message_of}
+use Rattle.messages.specs.Read.{name_of as message_name, message_of}
 use Rattle.replica.specs.Machine.{take_in, unseen, if_unseen, joining, effect, allowed}
 use Rattle.calls.specs.declared.State.{State}
 use Rattle.calls.specs.State.{clock_model, Machine, name_of, view}
@@ -100,7 +100,7 @@ module _ (st : State) (store message : Bytes) where
   pub record TakeInAccepted : Type 0 where
     pub result_is : take_in_result st store message ≡ take_in_done st store message
     pub applies : Applies st store (take_in (message_of message))
-    pub named : messageName message ≡ name_of st
+    pub named : message_name message ≡ name_of st
 
   pub take_in_accepted : number_of (take_in_result st store message).answer ≡ 0 → TakeInAccepted
   unfolding take_in_result
@@ -111,10 +111,10 @@ module _ (st : State) (store message : Bytes) where
       let u = undamaged st store passed.0 in
       let names = not-false _ passed.1.1.1.1.0 in
       let dots = not-false _ passed.1.1.1.1.1.0 in
-      let ours : compare_is_eq (compare_bytes (messageName message) (name_of st)) ≡ true = not-false _ passed.1.1.1.1.1.1.0 in
+      let ours : compare_is_eq (compare_bytes (message_name message) (name_of st)) ≡ true = not-false _ passed.1.1.1.1.1.1.0 in
       let rest = passed.1.1.1.1.1.1.1 in
       record {
         result_is = d.0;
-        applies = taken-applies st store (messageName message) u (message_of message) names dots rest.0 rest.1.0 rest.1.1.0 rest.1.1.1.0;
+        applies = taken-applies st store (message_name message) u (message_of message) names dots rest.0 rest.1.0 rest.1.1.0 rest.1.1.1.0;
         named = bytes_lawful.tie _ _ (tie-is _ (pass ours));
       }

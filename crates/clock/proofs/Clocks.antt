@@ -16,7 +16,7 @@ use Rattle.dots.specs.Dots.{actor_of, dot_of, compare_actors, compare_counters, 
 use Rattle.dots.proofs.Orders.{dots}
 use Rattle.dots.proofs.Rules.{Valid, valid}
 use Rattle.clock.specs.Row.{Row, seen, well_formed, join}
-use Rattle.clock.specs.Offered.{known, too_far, all_in_reach, join_all as joinCounters}
+use Rattle.clock.specs.Offered.{known, too_far, all_in_reach, join_all as join_counters}
 use Rattle.clock.specs.Clock.{zero_row, row_at, with_row, sees, all_to, rows_ok, join_dot, join_each, counters_of, near, zero_clock, clock_words, row_words}
 use Rattle.clock.specs.Reach.{Ready}
 use Rattle.clock.proofs.Bits.{test_bit_high}
@@ -282,19 +282,19 @@ row_kept W words d a f = row_other words d.actor.number a _ (λ e. f (sym e))
 
 -- an actor's row after all joins: its counters are joined, in the dots' order
 pub rows-joined : (W : ℕ) (words : List ℕ) (ds : List Dot) (a : ℕ) → length words ≡ clock_words → all dot_ok ds ≡ true
-    → row_at (join_each W words ds) a ≡ joinCounters W (row_at words a) (counters_of a ds)
-unfolding join_each joinCounters counters_of
+    → row_at (join_each W words ds) a ≡ join_counters W (row_at words a) (counters_of a ds)
+unfolding join_each join_counters counters_of
 rows-joined W words [] a s ok = refl
 rows-joined W words (d ∷ ds) a s ok =
     rows-joined W (join_dot W words d) ds a (length-join_dot W words d ∙ s) (ok-tail d ds ok) ∙ go (ℕ_discrete d.actor.number a)
   where
-    go : Dec (d.actor.number ≡ a) → joinCounters W (row_at (join_dot W words d) a) (counters_of a ds) ≡ joinCounters W (row_at words a) (counters_of a (d ∷ ds))
+    go : Dec (d.actor.number ≡ a) → join_counters W (row_at (join_dot W words d) a) (counters_of a ds) ≡ join_counters W (row_at words a) (counters_of a (d ∷ ds))
     go (yes p) =
-        ap (λ (r : Row). joinCounters W r (counters_of a ds)) (subst (λ (b : ℕ). row_at (join_dot W words d) b ≡ join W (row_at words b) d.counter.number) p (row-joined W words d s (ok-head d ds ok)))
-        ∙ ap (joinCounters W (row_at words a)) (sym (counters-own a d ds p))
+        ap (λ (r : Row). join_counters W r (counters_of a ds)) (subst (λ (b : ℕ). row_at (join_dot W words d) b ≡ join W (row_at words b) d.counter.number) p (row-joined W words d s (ok-head d ds ok)))
+        ∙ ap (join_counters W (row_at words a)) (sym (counters-own a d ds p))
     go (no f) =
-        ap (λ (r : Row). joinCounters W r (counters_of a ds)) (row_kept W words d a f)
-        ∙ ap (joinCounters W (row_at words a)) (sym (counters-other a d ds f))
+        ap (λ (r : Row). join_counters W r (counters_of a ds)) (row_kept W words d a f)
+        ∙ ap (join_counters W (row_at words a)) (sym (counters-other a d ds f))
 
 -- ---- well-formed clocks
 

@@ -3,7 +3,6 @@
 #![tactic(auto)]
 
 ghost use Rattle.std.specs.Prelude.{◌≡◌, ◌+◌, ◌<◌, ◌≤◌, true, ◌∷◌};
-ghost use Rattle.wire.specs.Loans.{after};
 ghost use Rattle.dots.specs.Dots.{max_counter, actor_most, actor_of, dot_of};
 ghost use Rattle.dots.specs.Wire.{dots_of};
 ghost use Rattle.clock.specs.Row.{window_width, seen as is_seen, well_formed, in_reach, trailing_ones, settled, join as joined};

@@ -3,7 +3,6 @@
 #![tactic(auto)]
 
 ghost use Rattle.std.specs.Prelude.{◌≡◌, true, ◌*◌, ◌≤◌, length};
-ghost use Rattle.wire.specs.Loans.{before};
 ghost use Rattle.wire.specs.Lists.{member};
 ghost use Rattle.contexts.specs.Inserting.{MayInsert, Inserted};
 ghost use Rattle.dots.specs.Dots.{compare_dots, ascending_dots, context_ok};

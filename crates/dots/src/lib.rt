@@ -4,7 +4,6 @@
 
 ghost use Rattle.std.specs.Prelude.{◌≡◌, cond, ◌+◌, ◌≤◌, length};
 ghost use Rattle.std.proofs.Math.Dec.{compare_is_eq};
-ghost use Rattle.wire.specs.Loans.{before};
 ghost use Rattle.wire.specs.Lists.{is_lt, all};
 ghost use Rattle.dots.specs.Answer.{number_of};
 ghost use Rattle.dots.specs.Names.{text_ok, name_ok, label_ok, prints, label_prints};

@@ -25,7 +25,7 @@ use Rattle.dots.proofs.Rules.{ascending-valid, prints-ok}
 use Rattle.clock.specs.Clock.{row_at}
 use Rattle.messages.specs.declared.MessageRead.{MessageRead}
 use Rattle.messages.specs.Message.{add_kind, message_ok}
-use Rattle.messages.specs.Read.{name_of as messageName, message_of, read_refusals, read_answer, accepted, no_message, read_of}
+use Rattle.messages.specs.Read.{name_of as message_name, message_of, read_refusals, read_answer, accepted, no_message, read_of}
 use Rattle.messages.proofs.Accepted.{Found, found, read-answers}
 use Rattle.store.specs.Valid.{store_most}
 use Rattle.replica.specs.Machine.{take_in, apply, effect}
@@ -81,8 +81,8 @@ module _ (s : Bytes) (r : MessageRead) (f : Found s r) where
     pub remove-is : (r.kind ≡ add_kind → ⊥) → message_of s ≡ remove (dots_of context)
     remove-is k = remove-read k ∙ rw context-is
 
-    rules_of : (m : Message) → message_of s ≡ m → message_ok (messageName s) m ≡ true
-    rules_of m e = subst (λ (x : Message). message_ok (messageName s) x ≡ true) e f.rules
+    rules_of : (m : Message) → message_of s ≡ m → message_ok (message_name s) m ≡ true
+    rules_of m e = subst (λ (x : Message). message_ok (message_name s) x ≡ true) e f.rules
 
     context-ok : context_ok (dots_of context) ≡ true → ContextFits context
     context-ok ok = record { whole = rw context-is f.whole.0; short = rw context-is f.whole.1; ascends = search both }
@@ -110,10 +110,10 @@ module _ (s : Bytes) (r : MessageRead) (f : Found s r) where
     -- the later refusals of its parts are those of the message
     module _ (st : State) (size : ℕ) (given : Bytes) (given_is : given ≡ part_of s r.name) (q : Answer) where
       pub late-add : (label : Bytes) → r.kind ≡ add_kind → label ≡ part_of s r.label → q ≡ first_of (taken_late st size given (add label r.dot (dots_of context)))
-          → q ≡ first_of (taken_late st size (messageName s) (message_of s))
+          → q ≡ first_of (taken_late st size (message_name s) (message_of s))
       late-add label k e h = h ∙ rw (given_is, f.name, add_is label k e)
 
-      pub late-remove : (r.kind ≡ add_kind → ⊥) → q ≡ first_of (taken_late st 0 given (remove (dots_of context))) → q ≡ first_of (taken_late st size (messageName s) (message_of s))
+      pub late-remove : (r.kind ≡ add_kind → ⊥) → q ≡ first_of (taken_late st 0 given (remove (dots_of context))) → q ≡ first_of (taken_late st size (message_name s) (message_of s))
       late-remove k h = h ∙ rw (given_is, f.name, remove-is k)
 
 -- ---- the table
@@ -139,7 +139,7 @@ module _ (st : State) (store message : Bytes) (read : MessageRead) (read_is : re
     front-is = first-is ∙ rw (damage-is, read_is, read-answers message)
 
     take-refused : (k ≡ 0 → ⊥) → r ≡ first_of (take_in_refusals st store message)
-    take-refused t = stops front r k front-is numbered (rest st store (messageName message) (message_of message)) t
+    take-refused t = stops front r k front-is numbered (rest st store (message_name message) (message_of message)) t
 
     module _ (t : k ≡ 0) where
       whole : damaged st store ≡ false
@@ -153,8 +153,8 @@ module _ (st : State) (store message : Bytes) (read : MessageRead) (read_is : re
           let accepts : number_of read.answer ≡ 0 = rw (damage-is, whole) at (sym (numbered ∙ ap number_of first-is) ∙ t) in
           (state-kept st store whole, omega arith, found message read read_is accepts)
 
-      take-passed : Sized st → (q : Answer) → q ≡ first_of (taken_late st (length store) (messageName message) (message_of message)) → q ≡ first_of (take_in_refusals st store message)
-      take-passed size q h = passes front r k front-is numbered (rest st store (messageName message) (message_of message)) q (search rules) t (h ∙ late_is st store (name-length st size take-kept.0) (messageName message) (message_of message))
+      take-passed : Sized st → (q : Answer) → q ≡ first_of (taken_late st (length store) (message_name message) (message_of message)) → q ≡ first_of (take_in_refusals st store message)
+      take-passed size q h = passes front r k front-is numbered (rest st store (message_name message) (message_of message)) q (search rules) t (h ∙ late_is st store (name-length st size take-kept.0) (message_name message) (message_of message))
 
 -- the answer, where the call is told whether refusal 1 holds
 module _ (st : State) (message : Bytes) (read : MessageRead) (read_is : read ≡ read_of message) (lent : Lent) (r : Answer) (k : ℕ)
@@ -188,11 +188,11 @@ module _ (st : State) (store message : Bytes) (read : MessageRead) (read_is : re
           let n = none-refuses in
           let m = n.1.1.1.1.1.1 in
           let accepts : number_of (read_answer message) ≡ 0 = rw (n.1.0, n.1.1.0, n.1.1.1.0, n.1.1.1.1.0, n.1.1.1.1.1.0) refl in
-          let none : number_of (first_of (rest st store (messageName message) (message_of message))) ≡ 0 = rw (m.0, m.1.0, m.1.1.0, m.1.1.1.0, m.1.1.1.1.0) refl in
+          let none : number_of (first_of (rest st store (message_name message) (message_of message))) ≡ 0 = rw (m.0, m.1.0, m.1.1.0, m.1.1.1.0, m.1.1.1.1.0) refl in
           record {
             whole = n.0;
             found = found message read read_is (ap number_of (ap (λ (x : MessageRead). x.answer) read_is ∙ read-answers message) ∙ accepts);
-            passed = ap number_of (late_is st store (name-length st size (state-kept st store n.0)) (messageName message) (message_of message)) ∙ none;
+            passed = ap number_of (late_is st store (name-length st size (state-kept st store n.0)) (message_name message) (message_of message)) ∙ none;
             sized = size;
           }
 
@@ -219,8 +219,8 @@ module _ (st : State) (store s : Bytes) (r : MessageRead) (m : MayTakeIn st stor
     pub take-applies : MayApply st store label context r.dot
     take-applies =
         let o = offered s r m.found context context-is st label (state-kept st store m.whole) small k e in
-        let passed : number_of (first_of (taken_late st (length store) (messageName s) (add label r.dot (dots_of context)))) ≡ 0 = rw message-is at m.passed in
-        let n = none-holds (taken_late st (length store) (messageName s) (add label r.dot (dots_of context))) (search rules) passed in
+        let passed : number_of (first_of (taken_late st (length store) (message_name s) (add label r.dot (dots_of context)))) ≡ 0 = rw message-is at m.passed in
+        let n = none-holds (taken_late st (length store) (message_name s) (add label r.dot (dots_of context))) (search rules) passed in
         record {
           whole = m.whole;
           joins = record {
@@ -246,8 +246,8 @@ module _ (st : State) (store s : Bytes) (r : MessageRead) (m : MayTakeIn st stor
 
     pub take-removes : MayRemove st context
     take-removes =
-        let passed : number_of (first_of (taken_late st (length store) (messageName s) (remove (dots_of context)))) ≡ 0 = rw message-removes at m.passed in
-        let n = none-holds (taken_late st (length store) (messageName s) (remove (dots_of context))) (search rules) passed in
+        let passed : number_of (first_of (taken_late st (length store) (message_name s) (remove (dots_of context)))) ≡ 0 = rw message-removes at m.passed in
+        let n = none-holds (taken_late st (length store) (message_name s) (remove (dots_of context))) (search rules) passed in
         record {
           state-ok = state-kept st store m.whole;
           fits = removed s r m.found context context-is k;

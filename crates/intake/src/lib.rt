@@ -3,7 +3,6 @@
 #![tactic(auto)]
 
 ghost use Rattle.std.specs.Prelude.{◌≡◌, [], length};
-ghost use Rattle.wire.specs.Loans.{after};
 ghost use Rattle.dots.specs.Answer.{first_of};
 ghost use Rattle.messages.specs.Read.{read_of};
 ghost use Rattle.calls.specs.State.{state_from};

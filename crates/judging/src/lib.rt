@@ -3,7 +3,6 @@
 #![tactic(auto)]
 
 ghost use Rattle.std.specs.Prelude.{◌≡◌, true, ◌≤◌, eqb, length, take};
-ghost use Rattle.wire.specs.Loans.{before};
 ghost use Rattle.wire.specs.Lists.{all};
 ghost use Rattle.dots.specs.Names.{name_most, name_ok};
 ghost use Rattle.dots.specs.Wire.{dots_of, tombstone_size};

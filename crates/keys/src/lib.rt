@@ -3,7 +3,6 @@
 #![tactic(auto)]
 
 ghost use Rattle.std.specs.Prelude.{◌≡◌, true, cond, [], ◌+◌, ◌≤◌, length, drop};
-ghost use Rattle.wire.specs.Loans.{before, after};
 ghost use Rattle.wire.specs.Bytes.{byte_at, number_at, span, put_at};
 ghost use Rattle.keys.specs.declared.KeyKind.TheVariants.{ClockKey, LabelKey, EndKey};
 ghost use Rattle.keys.specs.Key.{key_of, type_byte, has_label, has_actor, names_ok, key_counter_ok, key_bytes, suffix_size, prefix_fixed};

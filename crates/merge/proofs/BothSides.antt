@@ -15,7 +15,7 @@ use Rattle.wire.proofs.Fields.{put_next, put_front}
 use Rattle.dots.specs.declared.Dot.{Dot}
 use Rattle.dots.specs.Dots.{compare_dots, ascending_dots}
 use Rattle.dots.specs.Wire.{dots_of, dot_size}
-use Rattle.dots.proofs.Orders.{dots as dotOrder}
+use Rattle.dots.proofs.Orders.{dots as dots_order}
 use Rattle.contexts.proofs.Places.{dots-around}
 use Rattle.slots.specs.Slots.{Slotted}
 use Rattle.merge.specs.Kept.{sides_of, EndToEnd, TwoTombstones}
@@ -24,7 +24,7 @@ use Rattle.merge.specs.Kept.{sides_of, EndToEnd, TwoTombstones}
 fewer_slotted : (ds es : List Dot) (slots : Bytes) → ((d : Dot) → d ∈ ds → d ∈ es) → Slotted es slots → Slotted ds slots
 fewer_slotted ds es slots among k = record {
   sized = k.sized;
-  each_set = λ d m. k.each_set d (holds (member compare_dots d es) (member-complete compare_dots dotOrder es (among d (member-sound compare_dots dotOrder ds (pass m)))));
+  each_set = λ d m. k.each_set d (holds (member compare_dots d es) (member-complete compare_dots dots_order es (among d (member-sound compare_dots dots_order ds (pass m)))));
 }
 
 -- two tombstones whose slots are set together

@@ -3,7 +3,6 @@
 #![tactic(auto)]
 
 ghost use Rattle.std.specs.Prelude.{◌≡◌, ◌+◌, ◌≤◌, min, length, take, drop};
-ghost use Rattle.wire.specs.Loans.{before};
 ghost use Rattle.wire.specs.Lists.{is_lt};
 ghost use Rattle.wire.specs.Bytes.{part_at, compare_bytes, little_endian, zero_at, starts_with};
 ghost use Rattle.search.specs.Marks.{mark_place};

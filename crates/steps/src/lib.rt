@@ -6,7 +6,6 @@ ghost use Rattle.std.specs.Prelude.{◌≡◌, true, not, cond, ◌∷◌, ◌+�
 ghost use Rattle.std.proofs.Math.Dec.{compare_is_eq};
 ghost use Rattle.wire.specs.Lists.{all, any, member};
 ghost use Rattle.wire.specs.Bytes.{compare_bytes};
-ghost use Rattle.wire.specs.Loans.{after};
 ghost use Rattle.dots.specs.Answer.{first_of};
 ghost use Rattle.dots.specs.Dots.{dot_of, dot_ok, compare_dots, ascending_dots, tombstone_most};
 ghost use Rattle.dots.specs.Wire.{dots_of};

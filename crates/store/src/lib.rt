@@ -3,7 +3,6 @@
 #![tactic(auto)]
 
 ghost use Rattle.std.specs.Prelude.{◌≡◌, ◌+◌, ◌-◌, ◌<◌, ◌≤◌, true, not, length, take, if◌then◌else◌};
-ghost use Rattle.wire.specs.Loans.{before, after};
 ghost use Rattle.wire.specs.Lists.{is_lt};
 ghost use Rattle.wire.specs.Bytes.{compare_bytes, zero_at, starts_with, put_at};
 ghost use Rattle.dots.specs.Names.{name_ok, label_ok, name_most};

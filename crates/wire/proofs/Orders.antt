@@ -100,13 +100,13 @@ module _ {A : Type 0} (cmp : A → A → Ordering) (order : Lawful cmp) where
 
 -- first by f, then by g
 module _ {A B C : Type 0} (f : C → A) (g : C → B) (whole : (x y : C) → f x ≡ f y → g x ≡ g y → x ≡ y)
-    (cmpA : A → A → Ordering) (cmpB : B → B → Ordering) (orderA : Lawful cmpA) (orderB : Lawful cmpB) where
-  pub lexicographic : Lawful (λ (x y : C). then (cmpA (f x) (f y)) (cmpB (g x) (g y)))
+    (cmp_a : A → A → Ordering) (cmp_b : B → B → Ordering) (order_a : Lawful cmp_a) (order_b : Lawful cmp_b) where
+  pub lexicographic : Lawful (λ (x y : C). then (cmp_a (f x) (f y)) (cmp_b (g x) (g y)))
   lexicographic = record {
-    self = λ x. then-self cmpA orderA (f x) (cmpB (g x) (g x)) (orderB.self (g x));
-    tie = λ x y e. let p = then_tie cmpA orderA (f x) (f y) (cmpB (g x) (g y)) e in whole x y p.0 (orderB.tie (g x) (g y) p.1);
-    turn = λ x y. then-turn cmpA orderA (f x) (f y) (cmpB (g x) (g y)) (cmpB (g y) (g x)) (orderB.turn (g x) (g y));
-    chain = λ x y z. then-chain cmpA orderA (f x) (f y) (f z) (cmpB (g x) (g y)) (cmpB (g y) (g z)) (cmpB (g x) (g z)) (orderB.chain (g x) (g y) (g z));
+    self = λ x. then-self cmp_a order_a (f x) (cmp_b (g x) (g x)) (order_b.self (g x));
+    tie = λ x y e. let p = then_tie cmp_a order_a (f x) (f y) (cmp_b (g x) (g y)) e in whole x y p.0 (order_b.tie (g x) (g y) p.1);
+    turn = λ x y. then-turn cmp_a order_a (f x) (f y) (cmp_b (g x) (g y)) (cmp_b (g y) (g x)) (order_b.turn (g x) (g y));
+    chain = λ x y z. then-chain cmp_a order_a (f x) (f y) (f z) (cmp_b (g x) (g y)) (cmp_b (g y) (g z)) (cmp_b (g x) (g z)) (order_b.chain (g x) (g y) (g z));
   }
 
 module _ {A : Type 0} (cmp : A → A → Ordering) (order : Lawful cmp) where
