@@ -3,7 +3,6 @@
 #![tactic(auto)]
 
 ghost use Rattle.std.specs.Prelude.{◌≡◌, [], ◌∷◌, ◌++◌, ◌+◌, ◌*◌, ◌≤◌, length};
-ghost use Rattle.wire.specs.Loans.{after};
 ghost use Rattle.wire.specs.Bytes.{big_endian};
 ghost use Rattle.clock.specs.Clock.{clock_words};
 ghost use Rattle.block.specs.Block.{block_size, AreWords, words_bytes, words_at, Fills, name_in, tombstone_in, state_bytes, state_in, name_at, clock_at, tombstone_at, used_at};

@@ -3,7 +3,6 @@
 #![tactic(auto)]
 
 ghost use Rattle.std.specs.Prelude.{◌≡◌};
-ghost use Rattle.wire.specs.Loans.{after};
 ghost use Rattle.capi.specs.Left.{take_in_left, compact_left, load_left};
 ghost use Rattle.capi.specs.Promise.{interface_version, SetsUp, OwnAdds, OwnRemoves, Changes, ListsLabels, PagesLabels, MergesLabels, WritesImage, LooksUp, WritesKeyOf, ReadsKeyIn, ReadsMessageIn};
 

@@ -3,7 +3,6 @@
 #![tactic(auto)]
 
 ghost use Rattle.std.specs.Prelude.{◌≡◌, ◌+◌, ◌*◌, ◌≤◌, ◌<◌, ◌^◌, length, take};
-ghost use Rattle.wire.specs.Loans.{before, after};
 ghost use Rattle.wire.specs.Bytes.{byte_at, big_endian, put_at, end_of, part_of};
 ghost use Rattle.crc.specs.Crc.{crc_of};
 ghost use Rattle.dots.specs.Answer.{first_of};

@@ -243,7 +243,7 @@ module _ (st : State) (store : Bytes) (label : Label) (f : damaged st store ≡ 
         rw (named, stretch-holds, entries-written (name_of st) (same_label st store label) same-valid)
         (sym (any_swap (λ (e : Entry). compare_is_eq (compare_bytes label e.label)) (λ (e : Entry). compare_is_eq (compare_bytes e.label label)) (λ (e : Entry). not (member compare_dots e.dot (tombstone_dots st))) (λ (e : Entry). same-turned label e.label) (entries st store)))
 
-pub looked : (st : State) (store r : MutBor Bytes) (label : Bytes) (number : ℕ) (listed : Bool) → Sized st → damaged st store.now ≡ false → label_ok label ≡ true → number ≡ 0
+pub looked : (st : State) (store r : Bor Bytes) (label : Bytes) (number : ℕ) (listed : Bool) → Sized st → damaged st store.now ≡ false → label_ok label ≡ true → number ≡ 0
     → IsPart store (stretch_start (name_of st) label (used_part st store.now)) (stretch_end (name_of st) label (used_part st store.now)) r
     → listed ≡ any (λ (e : Entry). not (member compare_dots e.dot (tombstone_dots st))) (entries_in st.name.len r.now)
     → LooksUp st store label number listed r

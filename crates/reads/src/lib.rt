@@ -3,7 +3,6 @@
 #![tactic(auto)]
 
 ghost use Rattle.std.specs.Prelude.{◌≡◌, false, ◌≤◌, length};
-ghost use Rattle.wire.specs.Loans.{after};
 ghost use Rattle.dots.specs.Answer.{first_of, number_of};
 ghost use Rattle.listing.specs.Listing.{PutsWanted};
 ghost use Rattle.steps.specs.Tests.{early_refusals};

@@ -31,6 +31,7 @@ fits c words = record {
   words-fit = words;
   count_fits = search rules;
   used-fits = search rules;
+}
 
 pub returns : goal.returns
 returns c = let is = packed c.args.state c.args.block.now _ _ _ _ _ (search rules) c.put_actor.ensures c.put_name.ensures c.put_clock.ensures.0 c.put_tombstone.ensures c.put_number.ensures.1 in

@@ -1,13 +1,10 @@
 -- A clock has 32 words.
 use mathlib.Core.Path.{◌≡◌}
-use native.Mathlib.Omega.{arith}
 use lib.ListN.{length}
 use Rattle.block.proofs.Filled.{fills_words}
 use borrow.Author.Rules.{rules}
 use Rattle.clock.specs.Clock.{clock_words}
 use Rattle.block.proofs.put_clock.Goals as goal
-
-put-words-requires c κs = let size : length c.before.before.before.before.args.clock.words ≡ clock_words = search rules in omega arith
 
 pub returns : goal.returns
 returns c = let words = c.args.clock.words in

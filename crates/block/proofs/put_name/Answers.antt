@@ -1,13 +1,10 @@
 -- A name has 16 bytes.
 use mathlib.Core.Path.{◌≡◌}
-use native.Mathlib.Omega.{arith}
 use lib.ListN.{length}
 use Rattle.block.proofs.Filled.{fills_counted}
 use borrow.Author.Rules.{rules}
 use Rattle.dots.specs.Names.{name_most}
 use Rattle.block.proofs.put_name.Goals as goal
-
-put-with-number-requires c κs = let size : length c.before.before.before.before.args.name.bytes ≡ name_most = search rules in omega arith
 
 pub returns : goal.returns
 returns c = let name = c.args.name in

@@ -1,13 +1,10 @@
 -- A tombstone has its full size, whatever it holds.
 use mathlib.Core.Path.{◌≡◌}
-use native.Mathlib.Omega.{arith}
 use lib.ListN.{length}
 use Rattle.block.proofs.Filled.{fills_counted}
 use borrow.Author.Rules.{rules}
 use Rattle.dots.specs.Wire.{tombstone_size}
 use Rattle.block.proofs.put_tombstone.Goals as goal
-
-put-with-number-requires c κs = let size : length c.before.before.before.before.args.tombstone.bytes ≡ tombstone_size = search rules in omega arith
 
 pub returns : goal.returns
 returns c = let tombstone = c.args.tombstone in

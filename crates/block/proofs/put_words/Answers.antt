@@ -1,4 +1,3 @@
-use Prim.Native.Nat.{◌-◌}
 use native.Mathlib.Omega.{arith}
 use Rattle.block.proofs.Filled.{put-none, word-put, words-end, all-put}
 use borrow.Author.Rules.{rules}

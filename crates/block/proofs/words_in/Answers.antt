@@ -1,4 +1,3 @@
-use Prim.Native.Nat.{◌-◌}
 use Rattle.block.proofs.Copied.{words-none, word_read, all_read}
 use borrow.Author.Rules.{rules}
 use Rattle.block.proofs.words_in.Goals as goal

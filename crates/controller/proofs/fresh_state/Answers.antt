@@ -4,8 +4,9 @@ use mathlib.Core.List.{List}
 use Prim.Native.Nat.{ℕ}
 use lib.ListN.{length, replicate}
 use Rattle.dots.specs.Dots.{actor_of}
-use Rattle.dots.specs.Wire.{tombstone_size}
+use Rattle.dots.specs.Wire.{dots_bytes, tombstone_size}
 use Rattle.calls.specs.declared.State.{State}
+use Rattle.calls.specs.Calls.{fresh_state}
 use Rattle.calls.specs.Effect.{padded}
 use Rattle.clock.specs.Clock.{zero_clock}
 use Rattle.dots.specs.Names.{name_most}
@@ -17,7 +18,8 @@ made : (actor : ℕ) (name bytes : List ℕ) → bytes ≡ padded name_most name
   clock = record { words = zero_clock };
   tombstone = record { bytes = replicate tombstone_size 0; count = 0 };
   used = 0;
-
+}) (fresh_state actor name)
+unfolding dots_bytes
 made actor name bytes e = rw e
 
 pub returns : goal.returns

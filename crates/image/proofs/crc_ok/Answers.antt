@@ -11,4 +11,4 @@ pub slice_bounds-crc-end : goal.slice_bounds-crc-end
 slice_bounds-crc-end c = front-size c.args.s.now (length c.args.s.now - 4) (omega arith)
 
 pub returns : goal.returns
-returns c = crc-tested c.args.s.now (λ k. (c.shared_slice_known-1.given k).fits) c.requires _ _ c.crc-crc.ensures (search rules) c.half_at.ensures.0
+returns c = crc-tested c.args.s.now (λ k. (c.type_inv.s k).fits) c.requires _ _ c.crc-crc.ensures (search rules) c.half_at.ensures.0

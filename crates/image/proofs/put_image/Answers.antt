@@ -11,8 +11,7 @@ use borrow.Author.Rules.{rules}
 use Rattle.image.proofs.put_image.Goals as goal
 use Rattle.image.proofs.put_image.Goals.{Start}
 
-name-fits : (s : tie.Start) → s.args.head.name.len ≤ length s.args.head.name.bytes
-
+name-fits : (s : Start) → s.args.head.name.len ≤ length s.args.head.name.bytes
 name-fits s = let size : length s.args.head.name.bytes ≡ name_most = search rules in omega (arith, s.requires.0.short-name)
 
 name-front : (s : Start) → s.args.head.name.len ≡ length (take s.args.head.name.len s.args.head.name.bytes)

@@ -1,13 +1,9 @@
 -- Each test is its definition.
-use Rattle.judging.proofs.Parts.{front-size}
 use Rattle.reads.proofs.MergeCalls.{refused-other, not_refused}
 use Rattle.reads.proofs.merge_refusal.Goals as goal
 
 pub slice_bounds-text-end : goal.slice_bounds-text-end
 slice_bounds-text-end c = (c.requires c.if-damage.false).1
-
-pub slice_bounds-other_set-end-2 : goal.slice_bounds-other_set-end-2
-slice_bounds-other_set-end-2 c = front-size _ _ (array-share-prefix-text (goal.at.slice_bounds-other_set-end-2 c).After-bytes-2-1)
 
 pub other_set-requires : goal.other_set-requires
 other_set-requires c = (c.requires c.if-damage.false).0

@@ -7,6 +7,3 @@ use Rattle.reads.proofs.put_used.Goals as goal
 
 pub slice_bounds-fill_slots-end : goal.slice_bounds-fill_slots-end
 slice_bounds-fill_slots-end c = let size = c.requires.tomb.size in let few = c.requires.tomb.few in front-size c.args.tombstone.now (c.args.count * dot_size) (omega arith)
-
-pub slice_bounds-put_wanted-end : goal.slice_bounds-put_wanted-end
-slice_bounds-put_wanted-end c = slice-aggregate-fill-slots (goal.at.slice_bounds-put_wanted-end c).After-shared_slice_known-2-1

@@ -2,9 +2,6 @@
 use lib.ListN.{take}
 use Rattle.judging.proofs.Parts.{front-size}
 use Rattle.reads.proofs.ReadCalls.{part_of_store}
-pub used-stretch-spec : {M : Type 1} → statement M
-used-stretch-spec =
-    tie.close (tie.spec slice-aggregate-stretch slice-aggregate-stretch-2 stretch-requires returns)
 use Rattle.reads.proofs.used_stretch.Goals as goal
 
 pub slice_bounds-stretch-end : goal.slice_bounds-stretch-end
