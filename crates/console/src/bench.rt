@@ -8,55 +8,65 @@ use block::{
 use lines::limits::ROWS;
 use lines::parse::Line;
 use lines::{parse, parts, print};
+use std::io;
+use std::io::Write;
 
 // Row number i of the clock in a block, unless it is zero. Returns 1 if a row is printed by now.
-fn row(state: &[u8], i: usize, printed: usize) -> usize
+fn row<W: Write>(writer: &mut W, state: &[u8], i: usize, printed: usize) -> io::Result<usize>
     requires { i < actor_most }
 {
     let at = CLOCK_AT + i * ROW_SIZE;
     let base = parts::number_at(state, at);
     let window = parts::number_at(state, at + 8);
     if (base == 0) & (window == 0) {
-        return printed;
+        return Ok(printed);
     }
-    print::joined(printed, i as u64 + 1);
-    print::marked(b":", base);
-    print::text(b":");
-    io::print_hex(1, window, 16);
-    1
+    print::joined(writer, printed, i as u64 + 1)?;
+    print::marked(writer, b":", base)?;
+    write!(writer, ":{window:016x}")?;
+    Ok(1)
 }
 
 // The clock in a block.
-fn clock(state: &[u8]) {
+fn clock<W: Write>(writer: &mut W, state: &[u8]) -> io::Result<()> {
     let mut printed = 0;
-    let mut i = 0;
-    while i < ROWS {
-        printed = row(state, i, printed);
-        i += 1;
+    for i in 0..ROWS {
+        printed = row(writer, state, i, printed)?;
     }
     if printed == 0 {
-        print::text(b" -");
+        print::text(writer, b" -")?;
     }
+    Ok(())
 }
 
-pub fn show_state(state: &[u8]) {
+pub fn show_state<W: Write>(writer: &mut W, state: &[u8]) -> io::Result<()> {
     let length = parts::number_at(state, NAME_LENGTH_AT) as usize;
     let count = parts::number_at(state, COUNT_AT) as usize;
-    print::number(wire::byte_at(state, 0) as u64);
-    print::name(parts::front(
-        parts::from(state, NAME_AT),
-        parts::least(length, dots::NAME_MOST),
-    ));
-    print::number(parts::number_at(state, USED_AT));
-    clock(state);
+    print::number(writer, wire::byte_at(state, 0) as u64)?;
+    print::name(
+        writer,
+        parts::front(
+            parts::from(state, NAME_AT),
+            parts::least(length, dots::NAME_MOST),
+        ),
+    )?;
+    print::number(writer, parts::number_at(state, USED_AT))?;
+    clock(writer, state)?;
     print::dots(
+        writer,
         parts::from(state, TOMBSTONE_AT),
         parts::least(count, dots::TOMBSTONE_MOST),
-    );
+    )
 }
 
 // Lends a store of another length from now on: the used bytes are kept as far as they fit, and the rest is filled. Returns the length.
-pub fn lend(line: Line, state: &[u8], room: &mut [u8], length: usize) -> usize {
+pub fn lend<W: Write>(
+    writer: &mut W,
+    line: Line,
+    state: &[u8],
+    room: &mut [u8],
+    length: usize,
+) -> io::Result<usize> {
     let next = line.first;
     let used = parts::number_at(state, USED_AT) as usize;
     let kept = parts::least(parts::least(used, length), next);
@@ -65,8 +75,8 @@ pub fn lend(line: Line, state: &[u8], room: &mut [u8], length: usize) -> usize {
         kept,
         (line.second % 256) as u8,
     );
-    print::number(next as u64);
-    next
+    print::number(writer, next as u64)?;
+    Ok(next)
 }
 
 // The place in a block of what a poke sets. In the clock it is that of an actor, in the tombstone that of a slot.

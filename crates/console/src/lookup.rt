@@ -2,6 +2,8 @@
 // compared with those of the stretch.
 use block::{NAME_LENGTH_AT, USED_AT};
 use lines::{parts, print};
+use std::io;
+use std::io::Write;
 
 // The place after the key at a place, if its label is lower than this one; else the place. Labels stand `front` bytes behind a key's start,
 // and 11 bytes follow them.
@@ -20,14 +22,12 @@ fn past_lower(used: &[u8], at: usize, front: usize, label: &[u8]) -> usize {
 // The number of bytes of the keys whose labels are lower.
 fn lower_bytes(used: &[u8], front: usize, label: &[u8]) -> usize {
     let mut at = 0;
-    let mut turns = used.len();
-    while 0 < turns {
+    for _ in 0..used.len() {
         let next = past_lower(used, at, front, label);
         if next == at {
             return at;
         }
         at = next;
-        turns -= 1;
     }
     at
 }
@@ -42,20 +42,26 @@ fn start_of(answer: u8, state: &[u8], store: &[u8], label: &[u8]) -> usize {
     lower_bytes(used, name_length + 4, label)
 }
 
-pub fn look_up(state: &[u8], store: &[u8], label: &[u8]) {
+pub fn look_up<W: Write>(
+    writer: &mut W,
+    state: &[u8],
+    store: &[u8],
+    label: &[u8],
+) -> io::Result<()> {
     let mut found = store;
     let mut listed = true;
     let answer = capi::ptl_lookup(state, store, label, &mut found, &mut listed);
     let start = start_of(answer, state, store, label);
-    print::number(answer as u64);
+    print::number(writer, answer as u64)?;
     if listed {
-        print::text(b" yes");
+        print::text(writer, b" yes")?;
     } else {
-        print::text(b" no");
+        print::text(writer, b" no")?;
     }
-    print::number(start as u64);
-    print::number(found.len() as u64);
+    print::number(writer, start as u64)?;
+    print::number(writer, found.len() as u64)?;
     if !search::starts_with(found, parts::from(store, start)) {
-        print::text(b" stretch-elsewhere");
+        print::text(writer, b" stretch-elsewhere")?;
     }
+    Ok(())
 }

@@ -12,6 +12,8 @@ use block::STATE_SIZE;
 use lines::limits::{ARGUMENTS_MAX, BUFFER_MAX, CONTROLLERS, LINE_MAX, OUT_FILL, OUT_MAX};
 use lines::parse::Line;
 use lines::{parse, parts, print, why};
+use std::io;
+use std::io::{BufWriter, Read, Write};
 
 // The longest input. One as long or longer is refused.
 const INPUT_MAX: usize = 2097152;
@@ -24,160 +26,199 @@ type States = [[u8; STATE_SIZE]; CONTROLLERS];
 type Stores = [[u8; BUFFER_MAX]; CONTROLLERS];
 
 // Carries out a command that changes neither state nor store.
-fn look(line: Line, state: &[u8], store: &[u8], args: &[u8], out: &mut [u8]) {
+fn look<W: Write>(
+    writer: &mut W,
+    line: Line,
+    state: &[u8],
+    store: &[u8],
+    args: &[u8],
+    out: &mut [u8],
+) -> io::Result<()> {
     let command = line.command;
     match command {
-        parse::LIST => commands::list(state, store, out),
-        parse::PAGE => commands::page(state, store, args, out),
-        parse::LOOKUP => lookup::look_up(state, store, args),
-        parse::IMAGE => commands::image(state, store, out),
-        parse::KEY => formats::write_key(line.first, line.second, args, out),
-        parse::READ_KEY => formats::read_key(args),
-        parse::READ_MESSAGE => formats::read_message(args),
-        parse::STATE => bench::show_state(state),
-        _ => print::hex(store),
+        parse::LIST => commands::list(writer, state, store, out),
+        parse::PAGE => commands::page(writer, state, store, args, out),
+        parse::LOOKUP => lookup::look_up(writer, state, store, args),
+        parse::IMAGE => commands::image(writer, state, store, out),
+        parse::KEY => formats::write_key(writer, line.first, line.second, args, out),
+        parse::READ_KEY => formats::read_key(writer, args),
+        parse::READ_MESSAGE => formats::read_message(writer, args),
+        parse::STATE => bench::show_state(writer, state),
+        _ => print::hex(writer, store),
     }
 }
 
 // Carries out a merged read of two controllers.
-fn merge(
+fn merge<W: Write>(
+    writer: &mut W,
     line: Line,
     states: &States,
     stores: &Stores,
     lengths: &[usize; CONTROLLERS],
     out: &mut [u8],
-) {
+) -> io::Result<()> {
     let a = line.first % CONTROLLERS;
     let b = line.second % CONTROLLERS;
     let lent = parts::front_mut(out, line.last);
     parts::fill(lent, 0, OUT_FILL);
     commands::merge(
+        writer,
         &states[a],
         parts::front(&stores[a], lengths[a]),
         &states[b],
         parts::front(&stores[b], lengths[b]),
         lent,
-    );
+    )
 }
 
 // Carries out a command that leaves the store's length.
-fn run(line: Line, state: &mut [u8; STATE_SIZE], store: &mut [u8], args: &[u8], out: &mut [u8]) {
+fn run<W: Write>(
+    writer: &mut W,
+    line: Line,
+    state: &mut [u8; STATE_SIZE],
+    store: &mut [u8],
+    args: &[u8],
+    out: &mut [u8],
+) -> io::Result<()> {
     let command = line.command;
     match command {
         parse::SETUP => {
-            print::number(capi::ptl_set_up((line.first % 256) as u8, args, state) as u64)
+            let actor = (line.first % 256) as u8;
+            print::number(writer, capi::ptl_set_up(actor, args, state) as u64)
         }
-        parse::ADD => commands::add(state, store, args, line.first, out),
-        parse::REMOVE => commands::remove(state, store, args, out),
-        parse::TAKE => print::number(capi::ptl_take_in(state, store, args) as u64),
-        parse::COMPACT => print::number(capi::ptl_compact(state, store) as u64),
+        parse::ADD => commands::add(writer, state, store, args, line.first, out),
+        parse::REMOVE => commands::remove(writer, state, store, args, out),
+        parse::TAKE => print::number(writer, capi::ptl_take_in(state, store, args) as u64),
+        parse::COMPACT => print::number(writer, capi::ptl_compact(state, store) as u64),
         parse::LOAD => {
             let actor = (line.first % 256) as u8;
-            print::number(capi::ptl_load_image(actor, args, state, store) as u64)
+            print::number(
+                writer,
+                capi::ptl_load_image(actor, args, state, store) as u64,
+            )
         }
-        b'A'..=b'Z' => bench::poke(line, state, store, args),
-        _ => look(line, state, store, args, out),
+        b'A'..=b'Z' => {
+            bench::poke(line, state, store, args);
+            Ok(())
+        }
+        _ => look(writer, line, state, store, args, out),
     }
 }
 
 // Carries out a command on a controller with the room for its store, of which `length` bytes are lent. Returns their number after it.
-fn run_on(
+fn run_on<W: Write>(
+    writer: &mut W,
     line: Line,
     state: &mut [u8; STATE_SIZE],
     room: &mut [u8],
     length: usize,
     args: &[u8],
     out: &mut [u8],
-) -> usize {
+) -> io::Result<usize> {
     if line.command == parse::BUFFER {
-        return bench::lend(line, state, room, length);
+        return bench::lend(writer, line, state, room, length);
     }
     let lent = parts::front_mut(out, line.last);
     parts::fill(lent, 0, OUT_FILL);
-    run(line, state, parts::front_mut(room, length), args, lent);
-    length
+    run(
+        writer,
+        line,
+        state,
+        parts::front_mut(room, length),
+        args,
+        lent,
+    )?;
+    Ok(length)
 }
 
 // Answers a line, unless it is blank or a comment.
-fn answer(
+fn answer<W: Write>(
+    writer: &mut W,
     text: &[u8],
     states: &mut States,
     stores: &mut Stores,
     lengths: &mut [usize; CONTROLLERS],
     args: &mut [u8; ARGUMENTS_MAX],
     out: &mut [u8; OUT_MAX],
-) {
+) -> io::Result<()> {
     let silent = (text.len() == 0) | (wire::byte_at(text, 0) == b'#');
     if silent & (text.len() <= LINE_MAX) {
-        return;
+        return Ok(());
     }
     let line = parse::read_line(text, args);
     let k = line.controller % CONTROLLERS;
     let length = lengths[k];
     if line.why != 0 {
-        why::refuse(line.why, line.field);
-        return;
+        return why::refuse(writer, line.why, line.field);
     }
     if (line.command == parse::BYTE) & (length <= line.second) {
-        why::refuse(why::OUTSIDE, 2);
-        return;
+        return why::refuse(writer, why::OUTSIDE, 2);
     }
-    print::text(parts::before(parse::body(text), b' '));
+    print::text(writer, parts::before(parse::body(text), b' '))?;
     if line.command == parse::MERGE {
-        merge(line, states, stores, lengths, out);
-        print::text(b"\n");
-        return;
+        merge(writer, line, states, stores, lengths, out)?;
+        return print::text(writer, b"\n");
     }
     lengths[k] = run_on(
+        writer,
         line,
         &mut states[k],
         &mut stores[k],
         length,
         parts::front(args, line.end),
         out,
-    );
-    print::text(b"\n");
+    )?;
+    print::text(writer, b"\n")
 }
 
-// Reads the input and answers it line by line.
-fn console(
-    input: &mut [u8; INPUT_MAX],
+// The input, of which no more than the longest is read.
+fn read_input(rt: &(impl Input + AllocGlobal)) -> io::Result<Vec<u8>> {
+    let mut input = Vec::new(rt.alloc());
+    rt.reader().take(INPUT_MAX as u64).read_to_end(&mut input)?;
+    Ok(input)
+}
+
+// Answers the input line by line.
+fn console<W: Write>(
+    writer: &mut W,
+    input: &[u8],
     states: &mut States,
     stores: &mut Stores,
     lengths: &mut [usize; CONTROLLERS],
     args: &mut [u8; ARGUMENTS_MAX],
     out: &mut [u8; OUT_MAX],
-) {
-    let n = io::read_full(0, input);
-    if INPUT_MAX <= n {
-        why::refuse(why::LONG_INPUT, 0);
-        return;
+) -> io::Result<()> {
+    if INPUT_MAX <= input.len() {
+        return why::refuse(writer, why::LONG_INPUT, 0);
     }
-    let all = parts::front(input, n);
     let mut at = 0;
-    while at < all.len() {
-        let end = bytes::scan::find(all, at, all.len(), b'\n');
-        answer(&all[at..end], states, stores, lengths, args, out);
-        if all.len() <= end {
-            return;
+    while at < input.len() {
+        let end = at + parts::find(&input[at..], b'\n');
+        answer(writer, &input[at..end], states, stores, lengths, args, out)?;
+        if input.len() <= end {
+            return Ok(());
         }
         at = end + 1;
     }
+    Ok(())
 }
 
-fn main() {
-    let mut input = [0u8; INPUT_MAX];
+fn main(rt: HostRuntime) -> io::Result<()> {
+    let input = read_input(&rt)?;
     let mut states = [[0u8; STATE_SIZE]; CONTROLLERS];
     let mut stores = [[0u8; BUFFER_MAX]; CONTROLLERS];
     let mut lengths = [BUFFER_START; CONTROLLERS];
     let mut args = [0u8; ARGUMENTS_MAX];
     let mut out = [0u8; OUT_MAX];
+    let mut writer = BufWriter::new(rt.alloc(), io::writer(&rt))?;
     console(
-        &mut input,
+        &mut writer,
+        &input,
         &mut states,
         &mut stores,
         &mut lengths,
         &mut args,
         &mut out,
-    );
+    )?;
+    writer.flush()
 }

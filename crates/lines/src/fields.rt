@@ -49,10 +49,8 @@ fn with_digit(read: Read, c: u8) -> Read {
 
 pub fn number(field: &[u8]) -> Read {
     let mut read = good(0);
-    let mut i = 0;
-    while i < field.len() {
-        read = with_digit(read, field[i]);
-        i += 1;
+    for c in field {
+        read = with_digit(read, *c);
     }
     let zero = wire::byte_at(field, 0) == b'0';
     if (field.len() == 0) | (zero & (1 < field.len())) {
@@ -78,8 +76,8 @@ fn put_number(read: Read, first: usize, args: &mut [u8; ARGUMENTS_MAX], end: usi
 
 // The byte of the two hexadecimal digits at the front. A digit's value is its place among all sixteen.
 fn pair(rest: &[u8], digits: &[u8], why: u8) -> Read {
-    let high = bytes::scan::find(digits, 0, digits.len(), wire::byte_at(rest, 0));
-    let low = bytes::scan::find(digits, 0, digits.len(), wire::byte_at(rest, 1));
+    let high = parts::find(digits, wire::byte_at(rest, 0));
+    let low = parts::find(digits, wire::byte_at(rest, 1));
     if 15 < high {
         return bad(why);
     }
@@ -181,10 +179,8 @@ fn put_bytes(kind: u8, field: &[u8], args: &mut [u8; ARGUMENTS_MAX], end: usize)
         end: end,
         at: 0,
     };
-    let mut turns = field.len();
-    while 0 < turns {
+    for _ in 0..field.len() {
         taken = take(kind, field, args, taken);
-        turns -= 1;
     }
     Read {
         why: taken.why,

@@ -147,14 +147,12 @@ fn begins(entry: &[u8], text: &[u8]) -> bool {
 
 // The place in a table of the first entry whose words the text begins with; the table's length if there is none.
 fn place_of(table: &[u8], text: &[u8]) -> usize {
-    let mut n = 0;
-    while n < table.len() {
+    for n in 0..table.len() {
         if begins(parts::field(table, b';', n), text) {
             return n;
         }
-        n += 1;
     }
-    n
+    table.len()
 }
 
 // Reads a command. The table has the words of each, its letter, and the kinds of the fields after its first word.
@@ -180,13 +178,11 @@ fn read_command(text: &[u8], args: &mut [u8; ARGUMENTS_MAX]) -> Line {
 // Whether a field is empty: two spaces, or one at either end.
 fn has_gap(text: &[u8]) -> bool {
     let mut before = b' ';
-    let mut i = 0;
-    while i < text.len() {
-        if (before == b' ') & (text[i] == b' ') {
+    for c in text {
+        if (before == b' ') & (*c == b' ') {
             return true;
         }
-        before = text[i];
-        i += 1;
+        before = *c;
     }
     before == b' '
 }
@@ -224,7 +220,7 @@ pub fn read_line(text: &[u8], args: &mut [u8; ARGUMENTS_MAX]) -> Line {
     if LINE_MAX < text.len() {
         return blank(why::LONG_LINE);
     }
-    if bytes::scan::find(text, 0, text.len(), b'\r') < text.len() {
+    if parts::find(text, b'\r') < text.len() {
         return blank(why::CARRIAGE_RETURN);
     }
     if has_gap(text) {

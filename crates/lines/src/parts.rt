@@ -1,5 +1,5 @@
 // Parts of lent bytes. Each function takes any places: where there are no such bytes it does nothing.
-ghost use Rattle.std.specs.Prelude.{◌≤◌, length};
+ghost use Rattle.std.specs.Prelude.{◌≡◌, ◌≢◌, ℕ, ◌<◌, ◌≤◌, length, slice_index};
 
 pub fn least(a: usize, b: usize) -> usize
     ensures { (result ≤ a) × (result ≤ b) }
@@ -35,11 +35,20 @@ pub fn front_mut<'a>(s: &'a mut [u8], n: usize) -> &'a mut [u8] {
     &mut s[0..n]
 }
 
+// The place of the first mark, or the number of bytes where there is none.
+pub fn find(s: &[u8], mark: u8) -> usize
+    ensures within { result ≤ length s.now }
+    ensures before { (k : ℕ) → k < result → slice_index s.now k ≢ mark }
+    ensures found { result < length s.now → slice_index s.now result ≡ mark }
+{
+    s.iter().position(|b| *b == mark).unwrap_or(s.len())
+}
+
 // What stands before the first mark, or all where there is none.
 pub fn before<'a>(s: &'a [u8], mark: u8) -> &'a [u8]
     ensures { length result.now ≤ length s.now }
 {
-    let end = bytes::scan::find(s, 0, s.len(), mark);
+    let end = find(s, mark);
     &s[0..end]
 }
 
@@ -47,7 +56,7 @@ pub fn before<'a>(s: &'a [u8], mark: u8) -> &'a [u8]
 pub fn after<'a>(s: &'a [u8], mark: u8) -> &'a [u8]
     ensures { length result.now ≤ length s.now }
 {
-    let end = bytes::scan::find(s, 0, s.len(), mark);
+    let end = find(s, mark);
     if s.len() <= end {
         return &s[0..0];
     }
@@ -58,11 +67,9 @@ pub fn after<'a>(s: &'a [u8], mark: u8) -> &'a [u8]
 // Part n of a text that is cut at each mark; no bytes where there are fewer.
 pub fn field<'a>(text: &'a [u8], mark: u8, n: usize) -> &'a [u8] {
     let mut at = 0;
-    let mut passed = 0;
-    while passed < n {
+    for _ in 0..n {
         let rest = after(from(text, at), mark);
         at = text.len() - rest.len();
-        passed += 1;
     }
     before(from(text, at), mark)
 }
@@ -89,21 +96,17 @@ pub fn put(out: &mut [u8], at: usize, bytes: &[u8]) -> usize {
 
 // Fills the bytes from a place on.
 pub fn fill(s: &mut [u8], at: usize, byte: u8) {
-    let mut i = at;
-    while i < s.len() {
+    for i in at..s.len() {
         s[i] = byte;
-        i += 1;
     }
 }
 
 // Whether all bytes are this one.
 pub fn is_filled(s: &[u8], byte: u8) -> bool {
-    let mut i = 0;
-    while i < s.len() {
-        if s[i] != byte {
+    for b in s {
+        if *b != byte {
             return false;
         }
-        i += 1;
     }
     true
 }

@@ -1,36 +1,37 @@
-// Printing fields on standard output, each after a space.
+// Printing fields on a writer, each after a space.
 ghost use Rattle.std.specs.Prelude.{◌+◌, ◌*◌, ◌<◌, ◌≤◌, length};
 ghost use Rattle.dots.specs.Wire.{dot_size};
 
 use crate::limits::OUT_FILL;
 use crate::parts;
+use std::io;
+use std::io::Write;
 
-pub fn text(s: &[u8]) {
-    io::write_all(1, s);
+pub fn text<W: Write>(writer: &mut W, s: &[u8]) -> io::Result<()> {
+    writer.write_all(s)
 }
 
 // A number in decimal digits after a mark.
-pub fn marked(mark: &[u8], n: u64) {
-    text(mark);
-    io::print_decimal(1, n);
+pub fn marked<W: Write>(writer: &mut W, mark: &[u8], n: u64) -> io::Result<()> {
+    text(writer, mark)?;
+    write!(writer, "{n}")
 }
 
 // NUM.
-pub fn number(n: u64) {
-    marked(b" ", n);
+pub fn number<W: Write>(writer: &mut W, n: u64) -> io::Result<()> {
+    marked(writer, b" ", n)
 }
 
 // HEX.
-pub fn hex(s: &[u8]) {
-    text(b" ");
+pub fn hex<W: Write>(writer: &mut W, s: &[u8]) -> io::Result<()> {
+    text(writer, b" ")?;
     if s.len() == 0 {
-        text(b"-");
+        text(writer, b"-")?;
     }
-    let mut i = 0;
-    while i < s.len() {
-        io::print_hex(1, wire::size_at(s, i) as u64, 2);
-        i += 1;
+    for byte in s {
+        write!(writer, "{byte:02x}")?;
     }
+    Ok(())
 }
 
 // A hexadecimal digit.
@@ -41,67 +42,64 @@ fn digit(n: u8) -> u8
 }
 
 // A byte of a TEXT, which may be its only one.
-fn character(b: u8, alone: bool) {
+fn character<W: Write>(writer: &mut W, b: u8, alone: bool) -> io::Result<()> {
     if (b <= b' ') | (b'~' < b) | (b == b'%') | (alone & (b == b'-')) {
         let three = [b'%', digit(b / 16), digit(b % 16)];
-        text(&three);
-        return;
+        return text(writer, &three);
     }
     let one = [b];
-    text(&one);
+    text(writer, &one)
 }
 
 // TEXT.
-pub fn name(s: &[u8]) {
-    text(b" ");
+pub fn name<W: Write>(writer: &mut W, s: &[u8]) -> io::Result<()> {
+    text(writer, b" ")?;
     if s.len() == 0 {
-        text(b"-");
+        text(writer, b"-")?;
     }
-    let mut i = 0;
-    while i < s.len() {
-        character(s[i], s.len() == 1);
-        i += 1;
+    for byte in s {
+        character(writer, *byte, s.len() == 1)?;
     }
+    Ok(())
 }
 
 // The number that a part of a list begins with: the first part, for which `later` is 0, stands after a space, the others after a comma.
-pub fn joined(later: usize, n: u64) {
-    text(parts::front(parts::from(b" ,", later), 1));
-    io::print_decimal(1, n);
+pub fn joined<W: Write>(writer: &mut W, later: usize, n: u64) -> io::Result<()> {
+    marked(writer, parts::front(parts::from(b" ,", later), 1), n)
 }
 
 // Dot number i of a list.
-fn dot(s: &[u8], i: usize)
+fn dot<W: Write>(writer: &mut W, s: &[u8], i: usize) -> io::Result<()>
     requires { i * dot_size + dot_size ≤ length s.now }
 {
     let dot = dots::dot_at(s, i * dots::DOT_SIZE);
-    joined(parts::least(i, 1), dot.actor.number as u64);
-    marked(b":", dot.counter.number);
+    joined(writer, parts::least(i, 1), dot.actor.number as u64)?;
+    marked(writer, b":", dot.counter.number)
 }
 
 // DOTS: so many of the dots in these bytes.
-pub fn dots(s: &[u8], count: usize) {
+pub fn dots<W: Write>(writer: &mut W, s: &[u8], count: usize) -> io::Result<()> {
     let most = parts::least(count, s.len() / dots::DOT_SIZE);
     if most == 0 {
-        text(b" -");
+        text(writer, b" -")?;
     }
-    let mut i = 0;
-    while i < most {
-        dot(s, i);
-        i += 1;
+    for i in 0..most {
+        dot(writer, s, i)?;
     }
+    Ok(())
 }
 
 // What was written to an output. The bytes past it must be as they were before the call.
-pub fn bytes_written(out: &[u8], written: usize) {
-    hex(parts::front(out, written));
+pub fn bytes_written<W: Write>(writer: &mut W, out: &[u8], written: usize) -> io::Result<()> {
+    hex(writer, parts::front(out, written))?;
     if !parts::is_filled(parts::from(out, written), OUT_FILL) {
-        text(b" output-changed");
+        text(writer, b" output-changed")?;
     }
+    Ok(())
 }
 
 // A number and what was written to an output.
-pub fn output(n: u64, out: &[u8], written: usize) {
-    number(n);
-    bytes_written(out, written);
+pub fn output<W: Write>(writer: &mut W, n: u64, out: &[u8], written: usize) -> io::Result<()> {
+    number(writer, n)?;
+    bytes_written(writer, out, written)
 }

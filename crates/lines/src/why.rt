@@ -1,5 +1,7 @@
 // Why a line is no command, or cannot be carried out: the place of the reason in the list below, and 0 for none.
 use crate::{parts, print};
+use std::io;
+use std::io::Write;
 
 pub const CARRIAGE_RETURN: u8 = 1;
 
@@ -46,13 +48,13 @@ pub const LONG_INPUT: u8 = 21;
 pub const NO_WORD: u8 = 22;
 
 // The output of a line that was not carried out: the reason, with the number of the field that it is about, or 0 for the whole line.
-pub fn refuse(why: u8, field: usize) {
+pub fn refuse<W: Write>(writer: &mut W, why: u8, field: usize) -> io::Result<()> {
     let reasons =
         b";carriage return\n;space at an end or two spaces\n;missing\n;one too many\n;not a number\n;number too large\n;number over 255\n;cut % in text\n;bad % in text\n;byte that text must write as %\n;not hexadecimal\n;dot without counter\n;controllers are 0 to 15\n;unknown command\n;key types are c, d, e and z\n;unknown poke\n;name over 16 bytes\n;rows are 1 to 16\n;outside what can be set\n;line over 262144 bytes\n;input over 2097152 bytes\n;missing command\n";
-    print::text(b"? ");
+    print::text(writer, b"? ")?;
     if field != 0 {
-        print::marked(b"field ", field as u64);
-        print::text(b": ");
+        print::marked(writer, b"field ", field as u64)?;
+        print::text(writer, b": ")?;
     }
-    print::text(parts::field(reasons, b';', why as usize));
+    print::text(writer, parts::field(reasons, b';', why as usize))
 }

@@ -31,7 +31,6 @@ done actor name named st e t f = rw (f, ← e, t)
 
 short : (actor : ℕ) (name : List ℕ) (named : Bool) → named ≡ name_ok name → bad actor named ≡ false → length name ≤ name_most
 unfolding text_ok
-
 short actor name named e t = let ok : name_ok name ≡ true = sym e ∙ not-false named (search neither) in leb-true (length name) name_most (search both)
 
 pub returns-then-actor-named : goal.returns-then-actor-named
