@@ -210,12 +210,7 @@ pub fn ptl_compact(state: &mut [u8], store: &mut [u8]) -> u8
 // ---- hand-off images
 
 // Writes a hand-off image.
-pub fn ptl_write_image(
-    state: &[u8],
-    store: &[u8],
-    out: &mut [u8],
-    written: &mut usize,
-) -> u8
+pub fn ptl_write_image(state: &[u8], store: &[u8], out: &mut [u8], written: &mut usize) -> u8
     ensures { WritesImage state store out written result }
 {
     *written = 0;

@@ -9,7 +9,6 @@ use Rattle.image.proofs.four_at.Goals as goal
 
 four : (s : Bytes) (at high low : ℕ) → high ≡ byte_at s at * 256 + byte_at s (at + 1) → low ≡ byte_at s (at + 2) * 256 + byte_at s (at + 2 + 1) → high * 65536 + low ≡ four_at s at
 unfolding from_big_endian
-
 four s at high low e f = let last : at + 2 + 1 ≡ at + 3 = omega arith in rw (e, f, last) (omega arith)
 
 pub returns : goal.returns

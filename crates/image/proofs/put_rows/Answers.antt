@@ -19,7 +19,6 @@ turn : (s t u : Bytes) (at next a : ℕ) (words : List ℕ) (r : Row) → t ≡ 
 turn s t u at next a words r e n row f fits most = row_put s t u at next window_size a words (row_of r) e n row f (omega arith)
 
 all-put : (s t : Bytes) (at a : ℕ) (words : List ℕ) → a ≤ actor_most → actor_most ≤ a → t ≡ put_at s at (rows_bytes window_size a words) → t ≡ put_at s at (rows_bytes window_size actor_most words)
-
 all-put s t at a words most least e = let end : a ≡ actor_most = omega arith in rw end at e
 
 pub loop-a-init : goal.loop-a-init

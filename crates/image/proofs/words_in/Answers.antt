@@ -11,7 +11,6 @@ use borrow.Author.Rules.{rules}
 use Rattle.image.proofs.words_in.Goals as goal
 
 all_read : (s : Bytes) (words : List ℕ) (at a : ℕ) → a ≤ actor_most → actor_most ≤ a → words ≡ clock_in window_size a s at → words ≡ clock_in window_size actor_most s at
-
 all_read s words at a most least e = let end : a ≡ actor_most = omega arith in rw end at e
 
 pub loop-a-init : goal.loop-a-init
