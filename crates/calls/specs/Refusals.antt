@@ -33,7 +33,7 @@ bad_add_label label = not (label_prints label)
 abbrev pub bad_start : Label → Bool
 bad_start start = not (eqb (length start) 0 || label_ok start)
 
--- 6: "a context breaks its rule": whole dots, at most contextMost, "strictly ascending", each dot within its rule
+-- 6: "a context breaks its rule": whole dots, at most `context_most`, "strictly ascending", each dot within its rule
 abbrev pub bad_context : Bytes → Bool
 bad_context context = not (whole_dots context && context_ok (dots_of context))
 

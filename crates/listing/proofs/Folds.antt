@@ -288,7 +288,7 @@ module _ (n : ℕ) (keys : Bytes) (tombstone : List Dot) (dry : Bool) (o out : B
       -- what holds of a dry run too
       go_on : (back : Bytes) (r : ℕ) → r ≤ 1 → length back ≡ length o → (dry ≡ false → labels + r ≡ length (s.done ++ next)) → (dry ≡ false → back ≡ put_at o 0 (listing_bytes (s.done ++ next))) → (dry ≡ true → back ≡ o)
           → PutSoFar n keys tombstone dry o back (bytes + size) (labels + r) (at + l.end)
-      go_on back r few-more Kept-back labelled written untouched =
+      go_on back r few-more kept_back labelled written untouched =
           let kept = s.kept in
           let room = s.room in
           let most = size_most n part tombstone l read in
@@ -305,7 +305,7 @@ module _ (n : ℕ) (keys : Bytes) (tombstone : List Dot) (dry : Bool) (o out : B
             whole = s.whole ∙ ap (λ (ls : List Line). s.done ++ ls) (lines_next n keys tombstone at l read) ∙ sym (append_assoc s.done next (lines_from n keys tombstone (at + l.end)));
             bytes_are = omega (arith, bytes_next, ap length (listing-append s.done next), length-append (listing_bytes s.done) (listing_bytes next));
             room = omega arith;
-            kept = Kept-back;
+            kept = kept_back;
             labels_are = labelled;
             out-is = written;
             untouched = untouched;

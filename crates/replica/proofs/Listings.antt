@@ -65,7 +65,7 @@ module _ {ms ms' : List Message} (same : SameMembers ms ms') where
       (λ e m. let w = pair_live ms e m in ((same-pairs e).0 w.0, λ r. w.1 ((same-removed e.dot).1 r)))
       (λ e p n. live_pair ms e ((same-pairs e).1 p) (λ r. n ((same-removed e.dot).0 r)))
 
--- linesOf hold their entries, in order
+-- `lines_of` holds the entries, in order
 pub is-listing : (ms : List Message) → IsListing ms (rule_listing ms)
 unfolding rule_listing
 is-listing ms = record {

@@ -100,7 +100,7 @@ keep_same p q (x ∷ xs) h = rw (h x (Memᴰ.head refl), keep_same p q xs (λ z 
 
 -- "kept if both list it under that label, or if one lists it and the other's clock hasn't seen it": whether each lists a dot, whether each has seen it
 abbrev pub kept_dot : Bool → Bool → Bool → Bool → Bool
-kept_dot here there Seen-Here seen-there = (here && there) || ((here && not seen-there) || (there && not Seen-Here))
+kept_dot here there seen_here seen_there = (here && there) || ((here && not seen_there) || (there && not seen_here))
 
 -- the same, of one beside the other
 kept_beside_lem : (a b s t : Bool) → T (kept_dot a b s t) ↔ ((T a × (T b ⊎ T (not t))) ⊎ (T b × (T a ⊎ T (not s))))

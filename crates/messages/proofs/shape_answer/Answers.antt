@@ -12,15 +12,15 @@ use Rattle.messages.proofs.Shapes.{shape-within}
 use borrow.Author.Rules.{rules}
 use Rattle.messages.proofs.shape_answer.Goals as goal
 
-module _ (s : Bytes) (l : Layout) (shape : Bool) (Shape-is : shape ≡ shape_ok s l) where
+module _ (s : Bytes) (l : Layout) (shape : Bool) (shape_is : shape ≡ shape_ok s l) where
   fits : l ≡ layout_of s → shape ≡ true → Within s l
-  fits e t = rw e (shape-within s (rw (Shape-is, e) at t))
+  fits e t = rw e (shape-within s (rw (shape_is, e) at t))
 
   right : (r : Answer) → shape ≡ true → r ≡ first_of (field_refusals s l) → r ≡ first_of (shape_refusals s l)
-  right r t e = rw (← Shape-is, t) e
+  right r t e = rw (← shape_is, t) e
 
   wrong : shape ≡ false → BadShape ≡ first_of (shape_refusals s l)
-  wrong t = rw (← Shape-is, t)
+  wrong t = rw (← shape_is, t)
 
 pub fields_answer-requires : goal.fields_answer-requires
 fields_answer-requires c = search (rules, fits)
