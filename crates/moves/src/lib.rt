@@ -7,13 +7,23 @@ ghost use Rattle.wire.specs.Bytes.{big_endian, put_at, inserted_at};
 
 // ---- writing and moving
 
+// Copies src over all of part, by a loop: std's copy is a call of memmove, which the library does without.
+fn copy(part: &mut [u8], src: &[u8])
+    requires { length src.now ≡ length part.old }
+    ensures { part.new ≡ src.now }
+{
+    for i in 0..src.len() {
+        part[i] = src[i];
+    }
+}
+
 // Puts src into out at a place. Returns the place after it.
 pub fn put(out: &mut [u8], at: usize, src: &[u8]) -> usize
     requires { at + length src.now ≤ length out.old }
     ensures { (result ≡ at + length src.now) × (out.new ≡ put_at out.old at src.now) }
 {
     let end = at + src.len();
-    out[at..end].copy_from_slice(src);
+    copy(&mut out[at..end], src);
     end
 }
 
@@ -77,7 +87,7 @@ fn insert_front(s: &mut [u8], piece: &[u8])
     ensures { s.new ≡ piece.now ++ take (length s.old - length piece.now) s.old }
 {
     shift_up(s, piece.len());
-    s[..piece.len()].copy_from_slice(piece);
+    copy(&mut s[..piece.len()], piece);
 }
 
 // Inserts a piece at a place of the first `used` bytes; what follows it there moves up, and the rest keeps its values.

@@ -1,0 +1,6 @@
+-- The invariant: the bytes before i are those of src.
+use Rattle.std.proofs.Common.{◌≡◌, ℕ, ◌<◌, get_or}
+use Rattle.moves.proofs.copy.Given as goal
+
+abbrev pub invariant-loop-i : goal.invariant-loop-i
+invariant-loop-i l = (k : ℕ) → k < l.i → get_or l.part k 0 ≡ get_or l.src k 0
