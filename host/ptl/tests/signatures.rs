@@ -4,7 +4,10 @@
 use std::collections::{BTreeMap, BTreeSet};
 use std::fs;
 
-const CAPI: &str = concat!(env!("CARGO_MANIFEST_DIR"), "/../../crates/capi_c/src/lib.rt");
+const CAPI: &str = concat!(
+    env!("CARGO_MANIFEST_DIR"),
+    "/../../crates/capi_c/src/lib.rt"
+);
 const HEADER: &str = concat!(env!("CARGO_MANIFEST_DIR"), "/../../include/ptl.h");
 const WRAPPER: &str = concat!(env!("CARGO_MANIFEST_DIR"), "/src/ffi.rs");
 
@@ -58,15 +61,19 @@ fn rust_functions(text: &str, mark: &str, parameter: fn(&str, &str) -> Vec<Strin
 
 /// The exported functions of `capi_c`.
 fn of_capi(text: &str) -> Functions {
-    rust_functions(text, "#[unsafe(no_mangle)]\npub extern \"C\" fn ", |name, kind| {
-        let plain = kind.replace("'a ", "");
-        match plain.as_str() {
-            "&[u8]" => slice(name, "const"),
-            "&mut [u8]" => slice(name, "mut"),
-            "&mut &[u8]" => vec![format!("{name}: *mut Bytes")],
-            plain => vec![format!("{name}: {}", plain.replace("&mut ", "*mut "))],
-        }
-    })
+    rust_functions(
+        text,
+        "#[unsafe(no_mangle)]\npub extern \"C\" fn ",
+        |name, kind| {
+            let plain = kind.replace("'a ", "");
+            match plain.as_str() {
+                "&[u8]" => slice(name, "const"),
+                "&mut [u8]" => slice(name, "mut"),
+                "&mut &[u8]" => vec![format!("{name}: *mut Bytes")],
+                plain => vec![format!("{name}: {}", plain.replace("&mut ", "*mut "))],
+            }
+        },
+    )
 }
 
 fn slice(name: &str, access: &str) -> Vec<String> {
