@@ -3,9 +3,9 @@
 #![tactic(auto)]
 
 ghost use Rattle.std.specs.Prelude.{◌≡◌, [], ◌∷◌, ◌++◌, ◌+◌, ◌*◌, ◌≤◌, length};
-ghost use Rattle.wire.specs.Bytes.{big_endian};
+ghost use Rattle.wire.specs.Bytes.{big_endian, part_at};
 ghost use Rattle.clock.specs.Clock.{clock_words};
-ghost use Rattle.block.specs.Block.{block_size, AreWords, words_bytes, words_at, Fills, name_in, tombstone_in, state_bytes, state_in, name_at, clock_at, tombstone_at, used_at};
+ghost use Rattle.block.specs.Block.{block_size, AreWords, words_bytes, words_at, Fills, state_bytes, state_in, clock_at};
 
 // Where the fields of a block begin: actor, set name, its length, clock, tombstone, its number of dots, used length. Numbers have 8 bytes.
 pub const NAME_AT: usize = 1;
@@ -42,48 +42,10 @@ fn put_words(block: &mut [u8], at: usize, words: &[u64]) -> usize
     ensures { Fills at result (words_bytes words.now) block.old block.new × AreWords words.now }
 {
     let mut next = at;
-    let mut i = 0;
-    while i < words.len() {
-        next = moves::put_number(block, next, words[i]);
-        i += 1;
+    for word in words {
+        next = moves::put_number(block, next, *word);
     }
     next
-}
-
-// Puts the actor in its place.
-fn put_actor(block: &mut [u8], actor: dots::Actor)
-    requires { length block.old ≡ block_size }
-    ensures { Fills 0 1 (actor.number ∷ []) block.old block.new }
-{
-    let byte = [actor.number];
-    moves::put(block, 0, &byte);
-}
-
-// Puts the set name and its length in their place.
-fn put_name(block: &mut [u8], name: calls::SetName)
-    requires { length block.old ≡ block_size }
-    ensures { Fills name_at clock_at (name.bytes ++ big_endian 8 name.len) block.old block.new }
-{
-    let bytes = name.bytes;
-    put_with_number(block, NAME_AT, &bytes, name.len as u64);
-}
-
-// Puts the clock in its place.
-fn put_clock(block: &mut [u8], clock: clock::Clock)
-    requires { length block.old ≡ block_size }
-    ensures { Fills clock_at tombstone_at (words_bytes clock.words) block.old block.new × AreWords clock.words }
-{
-    let words = clock.words;
-    put_words(block, CLOCK_AT, &words);
-}
-
-// Puts the tombstone and its number of dots in their place.
-fn put_tombstone(block: &mut [u8], tombstone: calls::Tombstone)
-    requires { length block.old ≡ block_size }
-    ensures { Fills tombstone_at used_at (tombstone.bytes ++ big_endian 8 tombstone.count) block.old block.new }
-{
-    let bytes = tombstone.bytes;
-    put_with_number(block, TOMBSTONE_AT, &bytes, tombstone.count as u64);
 }
 
 // Writes a state into a block, which then is read as that state.
@@ -91,31 +53,30 @@ pub fn pack(state: calls::State, block: &mut [u8])
     requires { length block.old ≡ block_size }
     ensures { (block.new ≡ state_bytes state) × (state_in block.new ≡ state) }
 {
-    let actor = state.actor;
-    let name = state.name;
-    let clock = state.clock;
-    let tombstone = state.tombstone;
-    put_actor(block, actor);
-    put_name(block, name);
-    put_clock(block, clock);
-    put_tombstone(block, tombstone);
+    let name = &state.name;
+    let tombstone = &state.tombstone;
+    moves::put(block, 0, &[state.actor.number]);
+    put_with_number(block, NAME_AT, &name.bytes, name.len as u64);
+    put_words(block, CLOCK_AT, &state.clock.words);
+    put_with_number(
+        block,
+        TOMBSTONE_AT,
+        &tombstone.bytes,
+        tombstone.count as u64,
+    );
     moves::put_number(block, USED_AT, state.used as u64);
 }
 
 // ---- a block read as a state
 
-// The set name of a block, with its length.
-fn name_in(block: &[u8]) -> calls::SetName
-    requires { length block.now ≡ block_size }
-    ensures { result ≡ name_in block.now }
+// So many bytes of a block from a place on.
+fn bytes_in<const N: usize>(block: &[u8], at: usize) -> [u8; N]
+    requires { at + N ≤ length block.now }
+    ensures { result ≡ part_at block.now at N }
 {
-    let mut bytes = [0u8; dots::NAME_MOST];
-    moves::put(&mut bytes, 0, &block[NAME_AT..NAME_LENGTH_AT]);
-    let len = wire::number_at(block, NAME_LENGTH_AT) as usize;
-    calls::SetName {
-        bytes: bytes,
-        len: len,
-    }
+    let mut bytes = [0u8; N];
+    moves::put(&mut bytes, 0, &block[at..at + N]);
+    bytes
 }
 
 // The words of a block's clock.
@@ -124,26 +85,10 @@ fn words_in(block: &[u8]) -> clock::Words
     ensures { result ≡ words_at clock_words block.now clock_at }
 {
     let mut words = [0u64; clock::CLOCK_WORDS];
-    let mut i: usize = 0;
-    while i < clock::CLOCK_WORDS {
-        words[i] = wire::number_at(block, CLOCK_AT + i * 8);
-        i += 1;
+    for (i, word) in words.iter_mut().enumerate() {
+        *word = wire::number_at(block, CLOCK_AT + i * 8);
     }
     words
-}
-
-// The tombstone of a block, with its number of dots.
-fn tombstone_in(block: &[u8]) -> calls::Tombstone
-    requires { length block.now ≡ block_size }
-    ensures { result ≡ tombstone_in block.now }
-{
-    let mut bytes = [0u8; dots::TOMBSTONE_SIZE];
-    moves::put(&mut bytes, 0, &block[TOMBSTONE_AT..COUNT_AT]);
-    let count = wire::number_at(block, COUNT_AT) as usize;
-    calls::Tombstone {
-        bytes: bytes,
-        count: count,
-    }
 }
 
 // Reads the state of a block.
@@ -151,15 +96,19 @@ pub fn unpack(block: &[u8]) -> calls::State
     requires { length block.now ≡ block_size }
     ensures { result ≡ state_in block.now }
 {
-    let name = name_in(block);
-    let words = words_in(block);
-    let tombstone = tombstone_in(block);
-    let used = wire::number_at(block, USED_AT) as usize;
     calls::State {
         actor: dots::Actor { number: block[0] },
-        name: name,
-        clock: clock::Clock { words: words },
-        tombstone: tombstone,
-        used: used,
+        name: calls::SetName {
+            bytes: bytes_in(block, NAME_AT),
+            len: wire::number_at(block, NAME_LENGTH_AT) as usize,
+        },
+        clock: clock::Clock {
+            words: words_in(block),
+        },
+        tombstone: calls::Tombstone {
+            bytes: bytes_in(block, TOMBSTONE_AT),
+            count: wire::number_at(block, COUNT_AT) as usize,
+        },
+        used: wire::number_at(block, USED_AT) as usize,
     }
 }

@@ -1,5 +1,5 @@
 -- What a controller's state and its lent store stand for: a machine's state, on lists.
-use Rattle.std.specs.Prelude.{ℕ, ◌*◌, List, ◌≡◌, length, take}
+use Rattle.std.specs.Prelude.{◌*◌, List, ◌≡◌, length, take}
 use Rattle.wire.specs.Bytes.{Bytes}
 use Rattle.dots.specs.declared.Dot.{Dot}
 use Rattle.dots.specs.Names.{Name, name_most}
@@ -11,7 +11,6 @@ use Rattle.replica.specs.Clock.{ClockModel}
 use Rattle.replica.specs.Machine.{State as MachineState}
 use Rattle.replica.specs.RowClock.{row_clock}
 use Rattle.calls.specs.declared.State.{State}
-use Rattle.calls.specs.declared.Head.{Head}
 use Rattle.clock.specs.Clock.{clock_words}
 
 -- the machine over the clock of 16 rows
@@ -20,15 +19,6 @@ clock_model = row_clock window_width
 
 abbrev pub Machine : Type 0
 Machine = MachineState clock_model
-
--- the state of a head, a clock's words and a tombstone's bytes
-abbrev pub state_from : Head → List ℕ → Bytes → State
-state_from head words tombstone =
-    record { actor = head.actor; name = head.name; clock = record { words = words }; tombstone = record { bytes = tombstone; count = head.count }; used = head.used }
-
--- the head of a state
-abbrev pub head_of : State → Head
-head_of st = record { actor = st.actor; name = st.name; count = st.tombstone.count; used = st.used }
 
 -- the sizes of a state's arrays: what every state by value has
 pub record Sized (st : State) : Type 0 where

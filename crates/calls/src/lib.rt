@@ -26,14 +26,10 @@ pub struct State {
     pub actor: dots::Actor,
 }
 
-// A state beside the arrays of its clock and its tombstone: these are lent where a state by value would be copied.
-#[derive(Clone, Copy)]
-pub struct Head {
-    pub name: SetName,
-    pub count: usize,
-    pub used: usize,
-    pub actor: dots::Actor,
-}
+// ---- what calls give
+//
+// Records of an answer and values, and no `Result`s: what they say of a refusal too (state, counts) is promised by `Leaves`, `Lists`
+// and `PagesAfter` (specs/Promise), and demand 3 (specs/Demand3) speaks of these records.
 
 // What set-up gives.
 #[derive(Clone, Copy)]

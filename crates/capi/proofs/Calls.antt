@@ -7,6 +7,8 @@ use lib.ListN.{length}
 use borrow.Author.Tests.{eq-eqb, ne_eqb}
 use Rattle.wire.specs.Bytes.{Bytes, AreBytes, IsPart}
 use Rattle.dots.specs.Answer.{number_of}
+use Rattle.std.specs.Prelude.{Ok, Err}
+use Rattle.dots.specs.declared.Answer.{Answer}
 use Rattle.dots.specs.declared.Answer.TheVariants.{Damaged}
 use Rattle.calls.specs.declared.State.{State}
 use Rattle.calls.specs.declared.SetUp.{SetUp}
@@ -15,7 +17,6 @@ use Rattle.calls.specs.declared.Listed.{Listed}
 use Rattle.calls.specs.declared.Paged.{Paged}
 use Rattle.calls.specs.Calls.{Result, not_looked, set_up, page_result, more_follow, merge_result, lookup_result}
 use Rattle.calls.specs.Promise as controller
-use Rattle.image.specs.declared.ImageWritten.{ImageWritten}
 use Rattle.image.specs.Promise as images
 use Rattle.block.specs.Block.{block_size, state_bytes, state_in}
 use Rattle.capi.specs.Left.{is_block, packed, no_block, on_block, page_left, more_left, merge_left, lookup_left}
@@ -118,8 +119,11 @@ module _ (block : Bytes) (size : length block ≡ block_size) where
         pub changed : Changes (on_block block store out call) after store' r
         changed = record { answered = left.answered; block-is = left.block-is; state-is = left.state-is; store_is = left.store_is }
 
-      pub put : (out' : Bytes) (r : ℕ) (done : ImageWritten) → images.WritesImage (call st) out' done → r ≡ number_of done.answer → PutsOut (on_block block store out call) out' done.written r
-      put out' r done writes number = rw some (record { answered = number ∙ ap number_of writes.answered; out-is = writes.out-is; written_is = writes.written_is })
+      pub put : (out' : Bytes) (size : ℕ) → images.WritesImage (call st) out' (Ok size) → PutsOut (on_block block store out call) out' size 0
+      put out' size writes = rw some (record { answered = ap number_of writes.answered; out-is = writes.out-is; written_is = writes.written_is })
+
+      pub not_put : (out' : Bytes) (answer : Answer) → images.WritesImage (call st) out' (Err answer) → (r : ℕ) → r ≡ number_of answer → PutsOut (on_block block store out call) out' 0 r
+      not_put out' answer writes r number = rw some (record { answered = number ∙ ap number_of writes.answered; out-is = writes.out-is; written_is = writes.written_is })
 
       -- a state that comes with the answer, in the block
       pub loaded : (after store' : Bytes) (r : ℕ) (done : SetUp) → images.LoadsImage (call st) store' done → (after ≡ state_bytes done.state) × (state_in after ≡ done.state) → r ≡ number_of done.answer

@@ -7,12 +7,10 @@ use Rattle.wire.specs.Loans.{Loan, before}
 use Rattle.wire.specs.Bytes.{Bytes, IsPart}
 use Rattle.dots.specs.Answer.{number_of}
 use Rattle.dots.specs.declared.Answer.TheVariants.{Damaged}
-use Rattle.keys.specs.declared.KeyRead.{KeyRead}
 use Rattle.keys.specs.Key.{Key, key_of, key_bytes}
 use Rattle.keys.specs.Tests.{kind_of}
-use Rattle.keys.specs.Read.{read_key}
-use Rattle.messages.specs.declared.MessageRead.{MessageRead}
-use Rattle.messages.specs.Read.{read_of}
+use Rattle.keys.specs.Read.{KeyRead, read_key}
+use Rattle.messages.specs.Read.{MessageRead, read_of}
 use Rattle.calls.specs.Calls.{set_up}
 use Rattle.block.specs.Block.{state_bytes, state_in}
 use Rattle.capi.specs.Left.{Left, is_block, own_add_left, own_remove_left, list_left, page_left, more_left, merge_left, image_left, lookup_left, key_answer, key_written}

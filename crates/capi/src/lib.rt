@@ -1,4 +1,5 @@
 // The C interface: the calls of the controller on a state that crosses as a block of bytes.
+// Counts, places and lengths go out through references, one by one, as C takes them.
 
 #![tactic(auto)]
 
@@ -8,6 +9,12 @@ ghost use Rattle.capi.specs.Promise.{interface_version, SetsUp, OwnAdds, OwnRemo
 
 // The version of this interface: 100 times its major number and its minor number.
 const VERSION: u32 = 402;
+// The numbers of a call that is done, of one that is given bytes that are no block, and of a type byte that is none.
+const DONE: u8 = dots::Answer::Done as u8;
+
+const NO_BLOCK: u8 = dots::Answer::Damaged as u8;
+
+const NO_KIND: u8 = dots::Answer::BadShape as u8;
 
 // Tells the version of the interface.
 pub fn ptl_version() -> u32
@@ -23,13 +30,11 @@ pub fn ptl_set_up(actor: u8, name: &[u8], state: &mut [u8]) -> u8
     ensures { SetsUp actor name.now state.old state.new result }
 {
     if state.len() != block::STATE_SIZE {
-        return 1;
+        return NO_BLOCK;
     }
     let done = controller::set_up(actor, name);
-    let answer = done.answer;
-    let next = done.state;
-    block::pack(next, state);
-    dots::number_of(answer)
+    block::pack(done.state, state);
+    u8::from(done.answer)
 }
 
 // Adds a label under a new dot of this controller, and removes a context. Writes the add message.
@@ -45,14 +50,12 @@ pub fn ptl_own_add(
 {
     *written = 0;
     if state.len() != block::STATE_SIZE {
-        return 1;
+        return NO_BLOCK;
     }
     let done = own::own_add(block::unpack(state), store, label, context, out);
     *written = done.written;
-    let answer = done.answer;
-    let next = done.state;
-    block::pack(next, state);
-    dots::number_of(answer)
+    block::pack(done.state, state);
+    u8::from(done.answer)
 }
 
 // Removes a context. Writes the remove message.
@@ -67,14 +70,12 @@ pub fn ptl_own_remove(
 {
     *written = 0;
     if state.len() != block::STATE_SIZE {
-        return 1;
+        return NO_BLOCK;
     }
     let done = own::own_remove(block::unpack(state), store, context, out);
     *written = done.written;
-    let answer = done.answer;
-    let next = done.state;
-    block::pack(next, state);
-    dots::number_of(answer)
+    block::pack(done.state, state);
+    u8::from(done.answer)
 }
 
 // Takes a message in.
@@ -82,13 +83,11 @@ pub fn ptl_take_in(state: &mut [u8], store: &mut [u8], message: &[u8]) -> u8
     ensures { Changes (take_in_left state.old store.old message.now) state.new store.new result }
 {
     if state.len() != block::STATE_SIZE {
-        return 1;
+        return NO_BLOCK;
     }
     let done = intake::take_in(block::unpack(state), store, message);
-    let answer = done.answer;
-    let next = done.state;
-    block::pack(next, state);
-    dots::number_of(answer)
+    block::pack(done.state, state);
+    u8::from(done.answer)
 }
 
 // Lists the labels.
@@ -104,13 +103,12 @@ pub fn ptl_list(
     *written = 0;
     *labels = 0;
     if state.len() != block::STATE_SIZE {
-        return 1;
+        return NO_BLOCK;
     }
     let done = reads::list(block::unpack(state), store, out);
     *written = done.written;
     *labels = done.labels;
-    let answer = done.answer;
-    dots::number_of(answer)
+    u8::from(done.answer)
 }
 
 // Lists the labels after a starting one, as many as fit, and tells whether more follow.
@@ -129,14 +127,13 @@ pub fn ptl_page(
     *labels = 0;
     *more = false;
     if state.len() != block::STATE_SIZE {
-        return 1;
+        return NO_BLOCK;
     }
     let page = reads::page(block::unpack(state), store, start, out);
     *written = page.written;
     *labels = page.labels;
     *more = page.more;
-    let answer = page.answer;
-    dots::number_of(answer)
+    u8::from(page.answer)
 }
 
 // Lists the labels of two controllers as one.
@@ -154,17 +151,16 @@ pub fn ptl_merge<'a>(
     *written = 0;
     *labels = 0;
     if first.len() != block::STATE_SIZE {
-        return 1;
+        return NO_BLOCK;
     }
     if second.len() != block::STATE_SIZE {
-        return 1;
+        return NO_BLOCK;
     }
     let state = block::unpack(first);
     let done = reads::merge(state, first_store, block::unpack(second), second_store, out);
     *written = done.written;
     *labels = done.labels;
-    let answer = done.answer;
-    dots::number_of(answer)
+    u8::from(done.answer)
 }
 
 // Looks a label up: hands back the stretch of the lent store that holds its keys, and whether the listing has it.
@@ -180,9 +176,9 @@ pub fn ptl_lookup<'a>(
     if state.len() != block::STATE_SIZE {
         *found = &store[0..0];
         *listed = false;
-        return 1;
+        return NO_BLOCK;
     }
-    let mut number: u8 = 0;
+    let mut number = DONE;
     *found = reads::lookup(block::unpack(state), store, label, &mut number, listed);
     number
 }
@@ -192,19 +188,15 @@ pub fn ptl_compact(state: &mut [u8], store: &mut [u8]) -> u8
     ensures { Changes (compact_left state.old store.old) state.new store.new result }
 {
     if state.len() != block::STATE_SIZE {
-        return 1;
+        return NO_BLOCK;
     }
     let read = block::unpack(state);
-    let kept = read.tombstone.count == 0;
-    if kept {
-        let answer = controller::compact_answer(read, store);
-        return dots::number_of(answer);
+    if read.tombstone.count == 0 {
+        return u8::from(controller::compact_answer(read, store));
     }
     let done = controller::compact(read, store);
-    let answer = done.answer;
-    let next = done.state;
-    block::pack(next, state);
-    dots::number_of(answer)
+    block::pack(done.state, state);
+    u8::from(done.answer)
 }
 
 // ---- hand-off images
@@ -215,12 +207,15 @@ pub fn ptl_write_image(state: &[u8], store: &[u8], out: &mut [u8], written: &mut
 {
     *written = 0;
     if state.len() != block::STATE_SIZE {
-        return 1;
+        return NO_BLOCK;
     }
-    let done = image::write_image(block::unpack(state), store, out);
-    *written = done.written;
-    let answer = done.answer;
-    dots::number_of(answer)
+    match image::write_image(block::unpack(state), store, out) {
+        Ok(size) => {
+            *written = size;
+            DONE
+        }
+        Err(answer) => u8::from(answer),
+    }
 }
 
 // Loads a hand-off image under an actor. A refused load leaves a block of zeros.
@@ -228,13 +223,11 @@ pub fn ptl_load_image(actor: u8, image: &[u8], state: &mut [u8], store: &mut [u8
     ensures { Changes (load_left actor image.now state.old store.old) state.new store.new result }
 {
     if state.len() != block::STATE_SIZE {
-        return 1;
+        return NO_BLOCK;
     }
     let done = image::load(actor, image, store);
-    let answer = done.answer;
-    let next = done.state;
-    block::pack(next, state);
-    dots::number_of(answer)
+    block::pack(done.state, state);
+    u8::from(done.answer)
 }
 
 // ---- keys and messages
@@ -252,15 +245,23 @@ pub fn ptl_write_key(
     ensures { WritesKeyOf kind name label actor counter out written result }
 {
     *written = 0;
-    let typed = keys::kind_of(kind);
-    let byte = keys::type_byte(typed);
-    if byte != kind {
-        return 4;
+    let Ok(typed) = keys::KeyKind::try_from(kind) else {
+        return NO_KIND;
+    };
+    let key = keys::NewKey {
+        kind: typed,
+        name,
+        label,
+        actor,
+        counter,
+    };
+    match keys::write_key(key, out) {
+        Ok(size) => {
+            *written = size;
+            DONE
+        }
+        Err(answer) => u8::from(answer),
     }
-    let done = keys::write_key(typed, name, label, actor, counter, out);
-    *written = done.written;
-    let answer = done.answer;
-    dots::number_of(answer)
 }
 
 // Reads a key.
@@ -276,16 +277,18 @@ pub fn ptl_read_key(
 ) -> u8
     ensures { ReadsKeyIn bytes kind name_at name_len label_at label_len actor counter result }
 {
-    let read = keys::read_key(bytes);
-    *kind = read.kind;
-    *name_at = read.name.at;
-    *name_len = read.name.len;
-    *label_at = read.label.at;
-    *label_len = read.label.len;
-    *actor = read.actor;
-    *counter = read.counter;
-    let answer = read.answer;
-    dots::number_of(answer)
+    (*kind, *actor, *counter) = (0, 0, 0);
+    (*name_at, *name_len) = (0, 0);
+    (*label_at, *label_len) = (0, 0);
+    match keys::read_key(bytes) {
+        Ok(key) => {
+            (*kind, *actor, *counter) = (u8::from(key.kind), key.actor, key.counter);
+            (*name_at, *name_len) = (key.name.at, key.name.len);
+            (*label_at, *label_len) = (key.label.at, key.label.len);
+            DONE
+        }
+        Err(answer) => u8::from(answer),
+    }
 }
 
 // Reads a message.
@@ -303,16 +306,19 @@ pub fn ptl_read_message(
 ) -> u8
     ensures { ReadsMessageIn bytes kind name_at name_len label_at label_len actor counter context_at context_len result }
 {
-    let read = messages::read_message(bytes);
-    *kind = read.kind;
-    *name_at = read.name.at;
-    *name_len = read.name.len;
-    *label_at = read.label.at;
-    *label_len = read.label.len;
-    *actor = read.dot.actor.number;
-    *counter = read.dot.counter.number;
-    *context_at = read.context.at;
-    *context_len = read.context.len;
-    let answer = read.answer;
-    dots::number_of(answer)
+    (*kind, *actor, *counter) = (0, 0, 0);
+    (*name_at, *name_len) = (0, 0);
+    (*label_at, *label_len) = (0, 0);
+    (*context_at, *context_len) = (0, 0);
+    match messages::read_message(bytes) {
+        Ok(message) => {
+            *kind = u8::from(message.kind);
+            (*actor, *counter) = (message.dot.actor.number, message.dot.counter.number);
+            (*name_at, *name_len) = (message.name.at, message.name.len);
+            (*label_at, *label_len) = (message.label.at, message.label.len);
+            (*context_at, *context_len) = (message.context.at, message.context.len);
+            DONE
+        }
+        Err(answer) => u8::from(answer),
+    }
 }

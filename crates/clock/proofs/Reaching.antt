@@ -5,6 +5,7 @@ use mathlib.Core.Bool.{and-eq-true_iff}
 use mathlib.Core.List.Memᴰ
 use Prim.Native.Nat.{Ordering}
 use native.Mathlib.Decide.{dec_le, ℕ_discrete}
+use Rattle.std.specs.Prelude.{Option, None, Some, is_some}
 use Rattle.wire.specs.Lists.{◌∈◌, all, Less, Ascending, sort}
 use Rattle.wire.proofs.Tests.{decided, both_ways}
 use Rattle.wire.proofs.Lists.{insert_all-member, member-insert_all, ascending-insert_all, ascending_unique}
@@ -16,7 +17,8 @@ use Rattle.dots.proofs.Rules.{Valid, valid}
 use Rattle.clock.specs.Row.{Row, well_formed, join, in_reach}
 use Rattle.clock.specs.Offered.{all_in_reach}
 use Rattle.clock.specs.Clock.{row_at, rows_ok, join_dot, join_each, counters_of, near, clock_words}
-use Rattle.clock.specs.Reach.{Reach, Ready, reach_start, row_for, reach_step, reach_each}
+use Rattle.clock.specs.declared.Reach.{Reach as CodeReach}
+use Rattle.clock.specs.Reach.{Reach, IsReach, Ready, reach_start, row_for, reach_step, reach_each}
 use Rattle.clock.proofs.Rows.{WellFormed, forms, join-formed, reached}
 use Rattle.clock.proofs.Clocks.{ok-head, ok-tail, rows-well, rows-tested, counters-own, counters-other, counters-none, row-joined, row_kept, length-join_dot, row-none, near-reach, reach_all_near}
 
@@ -71,7 +73,7 @@ module _ (W : ℕ) (words : List ℕ) where
       go (inr k) t = rw (step-out x d (inl k)) f
 
   -- once one was out of reach, nothing helps
-  stuck : (x : Reach) (ds : List Dot) → x.ok ≡ false → (reach_each W words x ds).ok ≡ false
+  pub stuck : (x : Reach) (ds : List Dot) → x.ok ≡ false → (reach_each W words x ds).ok ≡ false
   unfolding reach_each
   stuck x [] k = k
   stuck x (d ∷ ds) k = stuck (reach_step W words x d) ds (ap (λ (y : Reach). y.ok) (step-out x d (inl k)))
@@ -216,12 +218,35 @@ unfolding reach_each
 reach_each-append W words x [] ys = refl
 reach_each-append W words x (d ∷ xs) ys = reach_each-append W words (reach_step W words x d) xs ys
 
-pub reach-around : (W : ℕ) (words : List ℕ) (xs : List Dot) (d : Dot) (ys : List Dot) (below there end : Reach)
-    → below ≡ reach_each W words reach_start xs → there ≡ reach_step W words below d → end ≡ reach_each W words there ys
-    → end ≡ reach_each W words reach_start (xs ++ (d ∷ ys))
-unfolding reach_each
-reach-around W words xs d ys below there end e f g =
-    g ∙ ap (λ (x : Reach). reach_each W words x ys) (f ∙ ap (λ (x : Reach). reach_step W words x d) e) ∙ sym (reach_each-append W words reach_start xs (d ∷ ys))
+-- one step of the code, which stops at the first that is out of reach
+module _ (W : ℕ) (words : List ℕ) (x : Reach) (left : List Dot) where
+  pub reach-next : (y : Reach) (d : Dot) (more : List Dot) → left ≡ d ∷ more → y ≡ reach_step W words x d → reach_each W words y more ≡ reach_each W words x left
+  unfolding reach_each
+  reach-next y d more e f = rw (e, f)
+
+  pub reach-stop : (d : Dot) (more : List Dot) → left ≡ d ∷ more → (reach_step W words x d).ok ≡ false → (reach_each W words x left).ok ≡ false
+  unfolding reach_each
+  reach-stop d more e f = rw e (stuck W words (reach_step W words x d) more f)
+
+  pub reach-last : left ≡ [] → x ≡ reach_each W words x left
+  unfolding reach_each
+  reach-last e = rw e
+
+module _ (W : ℕ) (words : List ℕ) (xs : List Dot) (d : Dot) (ys : List Dot) where
+  pub around-below : (reach_each W words reach_start xs).ok ≡ false → (reach_each W words reach_start (xs ++ (d ∷ ys))).ok ≡ false
+  around-below f = rw (reach_each-append W words reach_start xs (d ∷ ys)) (stuck W words (reach_each W words reach_start xs) (d ∷ ys) f)
+
+  module _ (below : Reach) (e : below ≡ reach_each W words reach_start xs) where
+    pub around-there : (reach_step W words below d).ok ≡ false → (reach_each W words reach_start (xs ++ (d ∷ ys))).ok ≡ false
+    around-there f = rw (reach_each-append W words reach_start xs (d ∷ ys), ← e) (reach-stop W words below (d ∷ ys) d ys refl f)
+
+    pub around-end : (there : Reach) → there ≡ reach_step W words below d → reach_each W words there ys ≡ reach_each W words reach_start (xs ++ (d ∷ ys))
+    around-end there f = rw (reach_each-append W words reach_start xs (d ∷ ys), ← e) (reach-next W words below (d ∷ ys) there d ys refl f)
+
+-- whether the code has a reach
+pub reach-some : (W : ℕ) (y : Reach) (r : Option CodeReach) → IsReach W y r → is_some r ≡ y.ok
+reach-some W y None h = sym h
+reach-some W y (Some s) h = ap (λ (z : Reach). z.ok) h.0
 
 pub join_each-append : (W : ℕ) (words : List ℕ) (xs ys : List Dot) → join_each W words (xs ++ ys) ≡ join_each W (join_each W words xs) ys
 unfolding join_each

@@ -1,5 +1,5 @@
 -- Whether ascending dots can be joined one by one, told without a change to the clock: only the row of the actor at hand is kept.
-use Rattle.std.specs.Prelude.{◌≡◌, ℕ, Bool, true, false, cond, ◌&&◌, List, [], ◌∷◌, ◌++◌, length, ◌==◌}
+use Rattle.std.specs.Prelude.{◌≡◌, ℕ, Option, MatchOption, Bool, true, false, cond, ◌&&◌, List, [], ◌∷◌, ◌++◌, length, ◌==◌}
 use Rattle.wire.specs.Bytes.{Bytes}
 use Rattle.dots.specs.Wire.{dots_of}
 use Rattle.clock.specs.Row.{Row, join, in_reach, well_formed}
@@ -17,12 +17,13 @@ pub record Reach : Type 0 where
   pub actor : ℕ
   pub row : Row
 
+-- where all dots so far are in reach
 abbrev pub reach_of : CodeReach → Reach
-reach_of x = record { ok = x.ok; actor = x.actor.number; row = row_of x.row }
+reach_of x = record { ok = true; actor = x.actor.number; row = row_of x.row }
 
--- the code has this reach, with a well-formed row
-abbrev pub IsReach : ℕ → Reach → CodeReach → Type 0
-IsReach W x r = (reach_of r ≡ x) × (well_formed W (row_of r.row) ≡ true)
+-- the code has this reach, with a well-formed row, or none where a dot was out of reach
+abbrev pub IsReach : ℕ → Reach → Option CodeReach → Type 0
+IsReach W x r = MatchOption r (x.ok ≡ false) (λ s. (reach_of s ≡ x) × (well_formed W (row_of s.row) ≡ true))
 
 -- no dot so far
 abbrev pub reach_start : Reach

@@ -25,6 +25,7 @@ pub const CLOCK_WORDS: usize = dots::ACTOR_MOST as usize * ROW_WORDS;
 pub type Words = [u64; CLOCK_WORDS];
 
 // The clock: base and window of actor 1, those of actor 2, and so on.
+// Words end to end, not an array of rows: contracts and theorems speak of them so (`row_at`, `with_row` in specs/Clock).
 #[derive(Clone, Copy)]
 pub struct Clock {
     pub words: Words,
@@ -37,87 +38,94 @@ pub struct Row {
     pub window: u64,
 }
 
-// Whether a row sees an event.
-fn row_sees(row: Row, counter: u64) -> bool
-    ensures { result ≡ is_seen (row_of row) counter }
-{
-    let base = row.base;
-    let window = row.window;
-    if counter <= base {
-        return 1 <= counter;
+impl Row {
+    // Whether the row sees an event.
+    fn sees(self, counter: u64) -> bool
+        ensures { result ≡ is_seen (row_of self) counter }
+    {
+        let base = self.base;
+        let window = self.window;
+        if counter <= base {
+            return 1 <= counter;
+        }
+        let above = counter - base - 1;
+        if WINDOW_WIDTH <= above {
+            return false;
+        }
+        (window >> above) % 2 == 1
     }
-    let above = counter - base - 1;
-    if WINDOW_WIDTH <= above {
-        return false;
-    }
-    (window >> above) % 2 == 1
-}
 
-// Whether the row keeps its rules: part of the check for damage.
-fn row_ok(row: Row) -> bool
-    ensures { result ≡ well_formed window_width (row_of row) }
-{
-    let base = row.base;
-    let window = row.window;
-    if window % 2 != 0 {
-        return false;
+    // Whether the row keeps its rules: part of the check for damage.
+    fn is_well_formed(self) -> bool
+        ensures { result ≡ well_formed window_width (row_of self) }
+    {
+        let base = self.base;
+        let window = self.window;
+        if window % 2 != 0 {
+            return false;
+        }
+        let room = u64::MAX - base;
+        if WINDOW_WIDTH <= room {
+            return true;
+        }
+        window >> room == 0
     }
-    let room = u64::MAX - base;
-    if WINDOW_WIDTH <= room {
-        return true;
-    }
-    window >> room == 0
-}
 
-// Whether the counter lies no more than 64 above the base.
-fn row_reaches(row: Row, counter: u64) -> bool
-    ensures { result ≡ in_reach window_width (row_of row) counter }
-{
-    let base = row.base;
-    if counter <= base {
-        return 1 <= counter;
+    // Whether the counter lies no more than 64 above the base.
+    fn reaches(self, counter: u64) -> bool
+        ensures { result ≡ in_reach window_width (row_of self) counter }
+    {
+        let base = self.base;
+        if counter <= base {
+            return 1 <= counter;
+        }
+        counter - base <= WINDOW_WIDTH
     }
-    counter - base <= WINDOW_WIDTH
-}
 
-// Moves the base up by the run of low ones. A run of 64 leaves no bit, and is no shift.
-fn settle(base: u64, window: u64) -> Row
-    requires { base + trailing_ones window_width window ≤ max_counter }
-    ensures { row_of result ≡ settled window_width (record { base = base; window = window }) }
-{
-    let run = u64::trailing_zeros(!window);
-    if run < WINDOW_RUN {
-        return Row {
-            base: base + run as u64,
-            window: window >> run,
+    // Moves the base up by the run of low ones. A run of 64 leaves no bit, and is no shift.
+    fn settled(self) -> Row
+        requires { self.base + trailing_ones window_width self.window ≤ max_counter }
+        ensures { row_of result ≡ settled window_width (row_of self) }
+    {
+        let base = self.base;
+        let window = self.window;
+        let run = (!window).trailing_zeros();
+        if run < WINDOW_RUN {
+            return Row {
+                base: base + run as u64,
+                window: window >> run,
+            };
+        }
+        Row {
+            base: base + WINDOW_WIDTH,
+            window: 0,
+        }
+    }
+
+    // The row that also sees the counter.
+    fn join(self, counter: u64) -> Row
+        requires { (well_formed window_width (row_of self) ≡ true) × (in_reach window_width (row_of self) counter ≡ true) }
+        ensures { row_of result ≡ joined window_width (row_of self) counter }
+    {
+        if self.sees(counter) {
+            return self;
+        }
+        let base = self.base;
+        let window = self.window;
+        let above = counter - base - 1;
+        let marked = Row {
+            base: base,
+            window: window | (1u64 << above),
         };
+        marked.settled()
     }
-    Row {
-        base: base + WINDOW_WIDTH,
-        window: 0,
-    }
-}
-
-// The row that also sees the counter.
-fn row_join(row: Row, counter: u64) -> Row
-    requires { (well_formed window_width (row_of row) ≡ true) × (in_reach window_width (row_of row) counter ≡ true) }
-    ensures { row_of result ≡ joined window_width (row_of row) counter }
-{
-    if row_sees(row, counter) {
-        return row;
-    }
-    let base = row.base;
-    let window = row.window;
-    let above = counter - base - 1;
-    settle(base, window | (1u64 << above))
 }
 
 // ---- the clock of 16 rows
 
-// All dots so far are in reach, and the row of the last one's actor with them.
+// The actor of the last dot, and its row with all dots so far, which are in reach.
 #[derive(Clone, Copy)]
 pub struct Reach {
-    pub ok: bool,
     pub actor: dots::Actor,
     pub row: Row,
 }
@@ -160,7 +168,7 @@ pub fn set_row(words: &mut Words, actor: dots::Actor, row: Row)
 pub fn sees(words: &Words, dot: dots::Dot) -> bool
     ensures { result ≡ is_seen_by words.now dot }
 {
-    row_sees(row_of(words, dot.actor), dot.counter.number)
+    row_of(words, dot.actor).sees(dot.counter.number)
 }
 
 // The base of an actor's row; the actor is told by its number less 1.
@@ -177,7 +185,7 @@ pub fn sees_event(words: &Words, row: u64, event: u64) -> bool
     requires { row < actor_most }
     ensures { result ≡ is_seen_by words.now (dot_of (actor_of (row + 1)) event) }
 {
-    if std::num::wrapping_sub_u64(event, 1) < base_at(words, row) {
+    if event.wrapping_sub(1) < base_at(words, row) {
         return true;
     }
     let actor = (row + 1) as u8;
@@ -193,11 +201,9 @@ fn rows_ok(words: &Words) -> bool
     ensures { result ≡ rows_ok window_width words.now }
 {
     let mut ok = true;
-    let mut a: u8 = 0;
-    while a < dots::ACTOR_MOST {
-        a = a + 1;
+    for a in 1..=dots::ACTOR_MOST {
         let row = row_of(words, dots::Actor { number: a });
-        ok = ok & row_ok(row);
+        ok = ok & row.is_well_formed();
     }
     ok
 }
@@ -217,56 +223,45 @@ fn join_dot(words: &mut Words, dot: dots::Dot)
     ensures { words.new ≡ join_dot window_width words.old dot }
 {
     let row = row_of(words, dot.actor);
-    set_row(words, dot.actor, row_join(row, dot.counter.number));
+    set_row(words, dot.actor, row.join(dot.counter.number));
 }
 
 // The row for the next dot of an actor.
 fn row_for(words: &Words, x: Reach, actor: dots::Actor) -> Row
     ensures { row_of result ≡ row_for words.now (reach_of x) actor.number }
 {
-    if x.actor.number == actor.number {
+    if x.actor == actor {
         return x.row;
     }
     row_of(words, actor)
 }
 
-// Whether one dot more is in reach.
-fn reach_step(words: &Words, x: Reach, dot: dots::Dot) -> Reach
+// The reach with one dot more, if it is in reach.
+fn reach_step(words: &Words, x: Reach, dot: dots::Dot) -> Option<Reach>
     requires { (rows_ok window_width words.now ≡ true) × (well_formed window_width (row_of x.row) ≡ true) }
     ensures { IsReach window_width (reach_step window_width words.now (reach_of x) dot) result }
 {
     let row = row_for(words, x, dot.actor);
-    if !x.ok {
-        return x;
+    if !row.reaches(dot.counter.number) {
+        return None;
     }
-    if !row_reaches(row, dot.counter.number) {
-        let mut out = x;
-        out.ok = false;
-        return out;
-    }
-    let joined = row_join(row, dot.counter.number);
-    let actor = dot.actor;
-    Reach {
-        ok: true,
-        actor: actor,
+    let joined = row.join(dot.counter.number);
+    Some(Reach {
+        actor: dot.actor,
         row: joined,
-    }
+    })
 }
 
-// Whether all dots of the bytes are in reach, one after the other.
-fn reach_dots(words: &Words, from: Reach, offered: &[u8]) -> Reach
+// The reach with all dots of the bytes, if each is in reach when its turn comes.
+fn reach_dots(words: &Words, from: Reach, offered: &[u8]) -> Option<Reach>
     requires { (rows_ok window_width words.now ≡ true) × (well_formed window_width (row_of from.row) ≡ true) }
     ensures { IsReach window_width (reach_each window_width words.now (reach_of from) (dots_of offered.now)) result }
 {
     let mut x = from;
-    let n = offered.len() / dots::DOT_SIZE;
-    let mut i: usize = 0;
-    while i < n {
-        let dot = dots::dot_at(offered, i * dots::DOT_SIZE);
-        x = reach_step(words, x, dot);
-        i = i + 1;
+    for dot in dots::dots_in(offered) {
+        x = reach_step(words, x, dot)?;
     }
-    x
+    Some(x)
 }
 
 // No dot so far.
@@ -274,7 +269,6 @@ fn reach_start() -> Reach
     ensures { reach_of result ≡ reach_start }
 {
     Reach {
-        ok: true,
         actor: dots::Actor { number: 0 },
         row: Row { base: 0, window: 0 },
     }
@@ -285,12 +279,8 @@ fn join_dots(words: &mut Words, offered: &[u8])
     requires { Ready window_width words.old (dots_of offered.now) }
     ensures { words.new ≡ join_each window_width words.old (dots_of offered.now) }
 {
-    let n = offered.len() / dots::DOT_SIZE;
-    let mut i: usize = 0;
-    while i < n {
-        let dot = dots::dot_at(offered, i * dots::DOT_SIZE);
+    for dot in dots::dots_in(offered) {
         join_dot(words, dot);
-        i = i + 1;
     }
 }
 
@@ -301,8 +291,7 @@ pub fn near_context(words: &Words, context: &[u8]) -> bool
     requires { Offer window_width words.now (dots_of context.now) }
     ensures { result ≡ near window_width words.now (dots_of context.now) }
 {
-    let end = reach_dots(words, reach_start(), context);
-    end.ok
+    reach_dots(words, reach_start(), context).is_some()
 }
 
 // The same for dots below one, the one, and dots above it.
@@ -310,10 +299,13 @@ fn near_around(words: &Words, lower: &[u8], dot: dots::Dot, higher: &[u8]) -> bo
     requires { Offer window_width words.now (dots_around lower.now dot higher.now) }
     ensures { result ≡ near window_width words.now (dots_around lower.now dot higher.now) }
 {
-    let below = reach_dots(words, reach_start(), lower);
-    let there = reach_step(words, below, dot);
-    let end = reach_dots(words, there, higher);
-    end.ok
+    let Some(below) = reach_dots(words, reach_start(), lower) else {
+        return false;
+    };
+    let Some(there) = reach_step(words, below, dot) else {
+        return false;
+    };
+    reach_dots(words, there, higher).is_some()
 }
 
 // Whether refusal 10 does not hold for a context and one more dot.

@@ -1,10 +1,7 @@
 -- The walk that drops keys: a run of kept keys grows until a key is dropped, and then moves down as a whole.
-use Rattle.std.specs.Prelude.{ℕ, ◌+◌, ◌-◌, ◌≤◌, Bool, true, cond, [], ◌++◌, ◌≡◌, take, drop}
+use Rattle.std.specs.Prelude.{ℕ, ◌+◌, ◌-◌, ◌≤◌, Bool, cond, [], ◌++◌, ◌≡◌, take, drop}
 use Rattle.wire.specs.Bytes.{Bytes, part_at}
 use Rattle.dots.specs.declared.Dot.{Dot}
-use Rattle.dots.specs.Dots.{ascending_dots}
-use Rattle.dots.specs.Wire.{dots_of}
-use Rattle.slots.specs.Slots.{Slotted}
 use Rattle.keys.specs.Key.{suffix_size}
 use Rattle.store.specs.Cut.{key_dot}
 use Rattle.compaction.specs.declared.Run.{Run}
@@ -22,10 +19,6 @@ pub record MovesRun (run : Run) (r : ℕ) (s s' : Bytes) : Type 0 where
   pub front : take r s' ≡ kept_to run s
   pub rest : drop run.end s' ≡ drop run.end s
   pub within : r ≤ run.end
-
--- ascending dots of a tombstone, with their slots set
-abbrev pub DotsSlotted : Bytes → Bytes → Type 0
-DotsSlotted tombstone slots = (ascending_dots (dots_of tombstone) ≡ true) × Slotted (dots_of tombstone) slots
 
 -- the key from the end of a run to `next`; it lies within `size` bytes and has a dot
 abbrev pub key_after : Run → ℕ → Bytes → Bytes

@@ -6,7 +6,7 @@ ghost use Rattle.std.specs.Prelude.{◌≡◌, true, ◌≤◌, length};
 ghost use Rattle.dots.specs.Names.{name_most};
 ghost use Rattle.store.specs.Valid.{keys_fit};
 ghost use Rattle.compaction.specs.Compaction.{is_in, is_among, CanCompact, Drops};
-ghost use Rattle.compaction.specs.Runs.{RunFits, MovesRun, KeyFits, DotsSlotted, WalksKey};
+ghost use Rattle.compaction.specs.Runs.{RunFits, MovesRun, KeyFits, WalksKey};
 
 // A run of kept keys: where it begins and ends, and where it goes.
 #[derive(Clone, Copy)]
@@ -21,9 +21,7 @@ fn move_run(s: &mut [u8], run: Run) -> usize
     requires { RunFits (length s.old) run }
     ensures { MovesRun run result s.old s.new }
 {
-    let from = run.from;
-    let end = run.end;
-    let to = run.to;
+    let Run { from, end, to } = run;
     if to == from {
         return end;
     }
@@ -31,16 +29,14 @@ fn move_run(s: &mut [u8], run: Run) -> usize
     end - (from - to)
 }
 
-// Takes the key from the end of a run to `next` into the run. If its dot is in the tombstone, the run moves, and the next one begins after the key.
-fn walk_key(keys: &mut [u8], tombstone: &[u8], slots: &slots::Slots, run: Run, next: usize) -> Run
-    requires { KeyFits (length keys.old) run next × DotsSlotted tombstone.now slots.now }
-    ensures { WalksKey (is_in tombstone.now) run next result keys.old keys.new }
+// Takes the key from the end of a run to `next` into the run. If its dot is among the dead ones, the run moves, and the next one begins after the key.
+fn walk_key(keys: &mut [u8], dead: slots::SlottedDots, run: Run, next: usize) -> Run
+    requires { KeyFits (length keys.old) run next }
+    ensures { WalksKey (is_in dead.entry.dots.now) run next result keys.old keys.new }
 {
-    let from = run.from;
-    let end = run.end;
-    let to = run.to;
+    let Run { from, end, to } = run;
     let dot = store::key_dot(&keys[end..next]);
-    if !slots::holds_slotted(tombstone, slots, dot) {
+    if !dead.holds(dot) {
         return Run {
             from,
             end: next,
@@ -55,20 +51,21 @@ fn walk_key(keys: &mut [u8], tombstone: &[u8], slots: &slots::Slots, run: Run, n
     }
 }
 
-// Drops the keys whose dots are in the tombstone, whose dots' slots are set. Returns how many bytes of keys are left.
-fn drop_keys(n: usize, keys: &mut [u8], tombstone: &[u8], slots: &slots::Slots) -> usize
-    requires { (n ≤ name_most) × (keys_fit n keys.old ≡ true) × DotsSlotted tombstone.now slots.now }
-    ensures { Drops (is_in tombstone.now) n result keys.old keys.new }
+// Drops the keys whose dots are among the dead ones. Returns how many bytes of keys are left.
+fn drop_keys(n: usize, keys: &mut [u8], dead: slots::SlottedDots) -> usize
+    requires { (n ≤ name_most) × (keys_fit n keys.old ≡ true) }
+    ensures { Drops (is_in dead.entry.dots.now) n result keys.old keys.new }
 {
     let mut run = Run {
         from: 0,
         end: 0,
         to: 0,
     };
+    // The keys move while they are walked over, so that no iterator can lend them.
     while run.end < keys.len() {
         let at = run.end;
         let next = at + store::key_length(n, &keys[at..]);
-        run = walk_key(keys, tombstone, slots, run, next);
+        run = walk_key(keys, dead, run, next);
     }
     let left = move_run(keys, run);
     moves::clear(&mut keys[left..]);
@@ -80,8 +77,12 @@ pub fn compact(n: usize, keys: &mut [u8], tombstone: &[u8], count: usize) -> usi
     requires { CanCompact n keys.old tombstone.now count }
     ensures { Drops (is_among tombstone.now count) n result keys.old keys.new }
 {
-    let size = count * dots::DOT_SIZE;
+    let dots = &tombstone[..count * dots::DOT_SIZE];
     let mut slots = [0u8; slots::SLOTS];
-    slots::fill_slots(&tombstone[..size], &mut slots);
-    drop_keys(n, keys, &tombstone[..size], &slots)
+    slots::fill_slots(dots, &mut slots);
+    let dead = slots::SlottedDots {
+        dots,
+        slots: &slots,
+    };
+    drop_keys(n, keys, dead)
 }

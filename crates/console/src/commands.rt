@@ -1,100 +1,113 @@
 // The calls of a controller that write an output, and their answers.
-use block::STATE_SIZE;
-use lines::{parts, print};
+use crate::rack::Controller;
+use lines::limits::OUT_FILL;
+use lines::print::Output;
+use std::alloc::AllocError;
 use std::io;
 use std::io::Write;
 
-// Own add. The label has the first bytes of the arguments, and the context the others.
+// Lends an output of a length.
+pub fn lend(out: &mut Vec<u8>, length: usize) -> Result<&mut [u8], AllocError> {
+    out.clear();
+    out.resize(length, OUT_FILL)?;
+    Ok(out.as_mut_slice())
+}
+
+// Own add.
 pub fn add<W: Write>(
     writer: &mut W,
-    state: &mut [u8; STATE_SIZE],
-    store: &mut [u8],
-    args: &[u8],
-    label_length: usize,
+    controller: &mut Controller,
+    label: &[u8],
+    context: &[u8],
     out: &mut [u8],
 ) -> io::Result<()> {
-    let label = parts::front(args, label_length);
-    let context = parts::from(args, label_length);
+    let state = &mut controller.state;
+    let store = controller.store.as_mut_slice();
     let mut written = usize::MAX;
     let answer = capi::ptl_own_add(state, store, label, context, out, &mut written);
-    print::output(writer, answer as u64, out, written)
+    let output = Output {
+        bytes: out,
+        written,
+    };
+    write!(writer, " {answer} {output}")
 }
 
 pub fn remove<W: Write>(
     writer: &mut W,
-    state: &mut [u8; STATE_SIZE],
-    store: &[u8],
+    controller: &mut Controller,
     context: &[u8],
     out: &mut [u8],
 ) -> io::Result<()> {
     let mut written = usize::MAX;
-    let answer = capi::ptl_own_remove(state, store, context, out, &mut written);
-    print::output(writer, answer as u64, out, written)
+    let answer = capi::ptl_own_remove(
+        &mut controller.state,
+        &controller.store,
+        context,
+        out,
+        &mut written,
+    );
+    let output = Output {
+        bytes: out,
+        written,
+    };
+    write!(writer, " {answer} {output}")
 }
 
-pub fn list<W: Write>(
-    writer: &mut W,
-    state: &[u8],
-    store: &[u8],
-    out: &mut [u8],
-) -> io::Result<()> {
+pub fn list<W: Write>(writer: &mut W, controller: &Controller, out: &mut [u8]) -> io::Result<()> {
     let mut written = usize::MAX;
     let mut labels = usize::MAX;
-    let answer = capi::ptl_list(state, store, out, &mut written, &mut labels);
-    print::number(writer, answer as u64)?;
-    print::output(writer, labels as u64, out, written)
+    let answer = capi::ptl_list(
+        &controller.state,
+        &controller.store,
+        out,
+        &mut written,
+        &mut labels,
+    );
+    let output = Output {
+        bytes: out,
+        written,
+    };
+    write!(writer, " {answer} {labels} {output}")
 }
 
-pub fn image<W: Write>(
-    writer: &mut W,
-    state: &[u8],
-    store: &[u8],
-    out: &mut [u8],
-) -> io::Result<()> {
+pub fn image<W: Write>(writer: &mut W, controller: &Controller, out: &mut [u8]) -> io::Result<()> {
     let mut written = usize::MAX;
-    let answer = capi::ptl_write_image(state, store, out, &mut written);
-    print::output(writer, answer as u64, out, written)
+    let answer = capi::ptl_write_image(&controller.state, &controller.store, out, &mut written);
+    let output = Output {
+        bytes: out,
+        written,
+    };
+    write!(writer, " {answer} {output}")
 }
 
 // One listing of two controllers.
-pub fn merge<'a, W: Write>(
+pub fn merge<W: Write>(
     writer: &mut W,
-    first: &[u8],
-    first_store: &'a [u8],
-    second: &[u8],
-    second_store: &'a [u8],
+    first: &Controller,
+    second: &Controller,
     out: &mut [u8],
 ) -> io::Result<()> {
     let mut written = usize::MAX;
     let mut labels = usize::MAX;
     let answer = capi::ptl_merge(
-        first,
-        first_store,
-        second,
-        second_store,
+        &first.state,
+        &first.store,
+        &second.state,
+        &second.store,
         out,
         &mut written,
         &mut labels,
     );
-    print::number(writer, answer as u64)?;
-    print::output(writer, labels as u64, out, written)
-}
-
-// Whether more follow a page; a refused one says neither.
-fn print_more<W: Write>(writer: &mut W, answer: u8, more: bool) -> io::Result<()> {
-    if more {
-        return print::text(writer, b" more");
-    }
-    if answer == 0 {
-        return print::text(writer, b" ended");
-    }
-    print::text(writer, b" -")
+    let output = Output {
+        bytes: out,
+        written,
+    };
+    write!(writer, " {answer} {labels} {output}")
 }
 
 pub fn page<W: Write>(
     writer: &mut W,
-    state: &[u8],
-    store: &[u8],
+    controller: &Controller,
     start: &[u8],
     out: &mut [u8],
 ) -> io::Result<()> {
@@ -102,16 +115,23 @@ pub fn page<W: Write>(
     let mut labels = usize::MAX;
     let mut more = true;
     let answer = capi::ptl_page(
-        state,
-        store,
+        &controller.state,
+        &controller.store,
         start,
         out,
         &mut written,
         &mut labels,
         &mut more,
     );
-    print::number(writer, answer as u64)?;
-    print::number(writer, labels as u64)?;
-    print_more(writer, answer, more)?;
-    print::bytes_written(writer, out, written)
+    // A refused page says neither that more follow nor that it has ended.
+    let follows = match (more, answer) {
+        (true, _) => "more",
+        (false, 0) => "ended",
+        (false, _) => "-",
+    };
+    let output = Output {
+        bytes: out,
+        written,
+    };
+    write!(writer, " {answer} {labels} {follows} {output}")
 }

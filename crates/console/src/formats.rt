@@ -1,51 +1,65 @@
 // Keys and messages, written and read without a controller.
-use lines::{parts, print};
+use crate::commands;
+use dots::{Actor, Counter, Dot};
+use lines::parse::Format;
+use lines::parts;
+use lines::print::{Dots, Output, Text};
 use std::io;
 use std::io::Write;
 
-// Writes a key of a type. The arguments are a name of so many bytes, a label, an actor and a counter.
-pub fn write_key<W: Write>(
+// Carries out a command that needs no controller.
+pub fn run<W: Write>(writer: &mut W, format: &Format, out: &mut Vec<u8>) -> io::Result<()> {
+    match format {
+        Format::Key {
+            kind,
+            name,
+            label,
+            dot,
+            out: length,
+        } => write_key(
+            writer,
+            *kind,
+            name,
+            label,
+            *dot,
+            commands::lend(out, *length)?,
+        ),
+        Format::ReadKey { key } => read_key(writer, key),
+        Format::ReadMessage { message } => read_message(writer, message),
+    }
+}
+
+fn write_key<W: Write>(
     writer: &mut W,
-    kind: usize,
-    name_length: usize,
-    args: &[u8],
+    kind: u8,
+    name: &[u8],
+    label: &[u8],
+    dot: Dot,
     out: &mut [u8],
 ) -> io::Result<()> {
-    if args.len() < dots::DOT_SIZE {
-        return Ok(());
-    }
-    let end = args.len() - dots::DOT_SIZE;
-    let names = &args[0..end];
     let mut written = usize::MAX;
     let answer = capi::ptl_write_key(
-        (kind % 256) as u8,
-        parts::front(names, name_length),
-        parts::from(names, name_length),
-        args[end],
-        parts::number_at(args, end + 1),
+        kind,
+        name,
+        label,
+        dot.actor.number,
+        dot.counter.number,
         out,
         &mut written,
     );
-    print::output(writer, answer as u64, out, written)
+    let output = Output {
+        bytes: out,
+        written,
+    };
+    write!(writer, " {answer} {output}")
 }
 
-// The name and the label of a key or a message.
-fn print_names<W: Write>(
-    writer: &mut W,
-    bytes: &[u8],
-    name_at: usize,
-    name_len: usize,
-    label_at: usize,
-    label_len: usize,
-) -> io::Result<()> {
-    print::name(writer, parts::front(parts::from(bytes, name_at), name_len))?;
-    print::name(
-        writer,
-        parts::front(parts::from(bytes, label_at), label_len),
-    )
+// The TEXT in a part of these bytes.
+fn text_in(bytes: &[u8], at: usize, len: usize) -> Text<'_> {
+    Text(parts::front(parts::from(bytes, at), len))
 }
 
-pub fn read_key<W: Write>(writer: &mut W, bytes: &[u8]) -> io::Result<()> {
+fn read_key<W: Write>(writer: &mut W, bytes: &[u8]) -> io::Result<()> {
     let mut kind = u8::MAX;
     let mut name_at = usize::MAX;
     let mut name_len = usize::MAX;
@@ -64,23 +78,13 @@ pub fn read_key<W: Write>(writer: &mut W, bytes: &[u8]) -> io::Result<()> {
         &mut counter,
     );
     let one = [kind];
-    print::number(writer, answer as u64)?;
-    print::name(writer, parts::front(&one, kind as usize))?;
-    print_names(writer, bytes, name_at, name_len, label_at, label_len)?;
-    print::number(writer, actor as u64)?;
-    print::number(writer, counter)
+    let kind = text_in(&one, 0, kind as usize);
+    let name = text_in(bytes, name_at, name_len);
+    let label = text_in(bytes, label_at, label_len);
+    write!(writer, " {answer} {kind} {name} {label} {actor} {counter}")
 }
 
-// A message's kind, or none.
-fn print_kind<W: Write>(writer: &mut W, kind: u8) -> io::Result<()> {
-    match kind {
-        b'a' => print::text(writer, b" add"),
-        b'r' => print::text(writer, b" remove"),
-        _ => print::text(writer, b" -"),
-    }
-}
-
-pub fn read_message<W: Write>(writer: &mut W, bytes: &[u8]) -> io::Result<()> {
+fn read_message<W: Write>(writer: &mut W, bytes: &[u8]) -> io::Result<()> {
     let mut kind = u8::MAX;
     let mut name_at = usize::MAX;
     let mut name_len = usize::MAX;
@@ -102,17 +106,18 @@ pub fn read_message<W: Write>(writer: &mut W, bytes: &[u8]) -> io::Result<()> {
         &mut context_at,
         &mut context_len,
     );
-    let dot = dots::dot_bytes(dots::Dot {
-        actor: dots::Actor { number: actor },
-        counter: dots::Counter { number: counter },
+    let dot = dots::dot_bytes(Dot {
+        actor: Actor { number: actor },
+        counter: Counter { number: counter },
     });
-    print::number(writer, answer as u64)?;
-    print_kind(writer, kind)?;
-    print_names(writer, bytes, name_at, name_len, label_at, label_len)?;
-    print::dots(writer, &dot, (kind == b'a') as usize)?;
-    print::dots(
-        writer,
-        parts::front(parts::from(bytes, context_at), context_len),
-        usize::MAX,
-    )
+    // A remove has no dot of its own, and a refused message none and no kind.
+    let (kind, dot) = match kind {
+        b'a' => ("add", Dots(&dot)),
+        b'r' => ("remove", Dots(&[])),
+        _ => ("-", Dots(&[])),
+    };
+    let name = text_in(bytes, name_at, name_len);
+    let label = text_in(bytes, label_at, label_len);
+    let context = Dots(parts::front(parts::from(bytes, context_at), context_len));
+    write!(writer, " {answer} {kind} {name} {label} {dot} {context}")
 }

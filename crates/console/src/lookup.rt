@@ -1,67 +1,84 @@
 // Lookup. A stretch tells its length and its bytes, and not where it starts: that is looked for in the store, and the bytes there are
 // compared with those of the stretch.
+ghost use Rattle.std.specs.Prelude.{length};
+ghost use Rattle.std.specs.Iterator.{at_most};
+
+use crate::rack::Controller;
 use block::{NAME_LENGTH_AT, USED_AT};
-use lines::{parts, print};
+use lines::parts;
 use std::io;
 use std::io::Write;
 
-// The place after the key at a place, if its label is lower than this one; else the place. Labels stand `front` bytes behind a key's start,
-// and 11 bytes follow them.
-fn past_lower(used: &[u8], at: usize, front: usize, label: &[u8]) -> usize {
-    let rest = parts::from(parts::from(used, at), front);
-    let end = search::zero_at(rest);
-    if rest.len() - end < 11 {
-        return at;
+// Bytes of a key after its label.
+const LABEL_END: usize = 11;
+
+// The keys that are left of a store. A label stands `front` bytes behind a key's start.
+#[derive(Drop)]
+struct Keys<'a> {
+    rest: &'a [u8],
+    front: usize,
+}
+
+// A key's label, and what stands after the key.
+#[derive(Clone, Copy)]
+struct Key<'a> {
+    label: &'a [u8],
+    after: &'a [u8],
+}
+
+impl<'a> Iterator for Keys<'a> {
+    type Item = Key<'a>;
+
+    ghost remaining = { λ s. at_most (length s.rest.now) };
+
+    fn next(&mut self) -> Option<Key<'a>> {
+        let labels = self.rest.get(self.front..)?;
+        let (label, end) = labels.split_at(search::zero_at(labels));
+        let after = end.get(LABEL_END..)?;
+        self.rest = after;
+        Some(Key { label, after })
     }
-    if !search::lower(&rest[0..end], label) {
-        return at;
-    }
-    used.len() - (rest.len() - end - 11)
 }
 
 // The number of bytes of the keys whose labels are lower.
 fn lower_bytes(used: &[u8], front: usize, label: &[u8]) -> usize {
-    let mut at = 0;
-    for _ in 0..used.len() {
-        let next = past_lower(used, at, front, label);
-        if next == at {
-            return at;
-        }
-        at = next;
+    let keys = Keys { rest: used, front };
+    match keys
+        .take_while(|key| search::lower(key.label, label))
+        .last()
+    {
+        Some(key) => used.len().saturating_sub(key.after.len()),
+        None => 0,
     }
-    at
 }
 
-// Where a label's stretch starts in the store, which is at its front in a refusal.
-fn start_of(answer: u8, state: &[u8], store: &[u8], label: &[u8]) -> usize {
-    if answer != 0 {
-        return 0;
-    }
-    let used = parts::front(store, parts::number_at(state, USED_AT) as usize);
-    let name_length = wire::size_at(state, NAME_LENGTH_AT + 7);
-    lower_bytes(used, name_length + 4, label)
+// Where a label's stretch starts in the store.
+fn start_of(controller: &Controller, label: &[u8]) -> usize {
+    let used = parts::number_at(&controller.state, USED_AT) as usize;
+    let name_length = controller.state[NAME_LENGTH_AT + 7] as usize;
+    lower_bytes(
+        parts::front(&controller.store, used),
+        name_length + 4,
+        label,
+    )
 }
 
-pub fn look_up<W: Write>(
-    writer: &mut W,
-    state: &[u8],
-    store: &[u8],
-    label: &[u8],
-) -> io::Result<()> {
+pub fn look_up<W: Write>(writer: &mut W, controller: &Controller, label: &[u8]) -> io::Result<()> {
+    let store = controller.store.as_slice();
     let mut found = store;
     let mut listed = true;
-    let answer = capi::ptl_lookup(state, store, label, &mut found, &mut listed);
-    let start = start_of(answer, state, store, label);
-    print::number(writer, answer as u64)?;
-    if listed {
-        print::text(writer, b" yes")?;
+    let answer = capi::ptl_lookup(&controller.state, store, label, &mut found, &mut listed);
+    // The stretch of a refusal is at the store's front.
+    let start = if answer == 0 {
+        start_of(controller, label)
     } else {
-        print::text(writer, b" no")?;
-    }
-    print::number(writer, start as u64)?;
-    print::number(writer, found.len() as u64)?;
-    if !search::starts_with(found, parts::from(store, start)) {
-        print::text(writer, b" stretch-elsewhere")?;
+        0
+    };
+    let is_listed = if listed { "yes" } else { "no" };
+    let length = found.len();
+    write!(writer, " {answer} {is_listed} {start} {length}")?;
+    if !parts::from(store, start).starts_with(found) {
+        writer.write_all(b" stretch-elsewhere")?;
     }
     Ok(())
 }

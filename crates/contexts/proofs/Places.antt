@@ -8,34 +8,19 @@ use native.Mathlib.Nat.{add-zero, zero-add}
 use native.Mathlib.Omega.{arith}
 use lib.Dec.{compare_is_eq}
 use lib.ListN.{length, take, drop, length-drop}
-use lib.Seq.{get_or-take, get_or-drop, take-take, drop-drop, length-take-le, take_at, drop_at}
+use lib.Seq.{length-take-le, take_at, drop_at}
+use Rattle.std.specs.List.{prefix_len}
+use Rattle.std.proofs.lemmas.List.Folds.{length-prefix_len}
 use Rattle.wire.specs.Lists.{is_lt, member, insert, place, Less, Ascending}
 use Rattle.wire.proofs.Tests.{untrue, pass}
-use Rattle.wire.proofs.Parts.{drop-take}
 use Rattle.wire.proofs.Lists.{lt_is, irreflexive, member-sound, insert-member, member-insert, ascending-insert, ascending_unique}
 use Rattle.dots.specs.declared.Dot.{Dot}
 use Rattle.dots.specs.Dots.{compare_dots}
 use Rattle.dots.specs.Wire.{dot_at, dots_at, dots_of, place_of, dot_size}
 use Rattle.dots.proofs.Orders.{dots}
-use Rattle.dots.proofs.Loops.{length-dots_at}
+use Rattle.dots.proofs.Loops.{length-dots_at, length-dots_of, dots-drop, dots-take}
 
 -- ---- dots of a part of the bytes
-
-dot-drop : (s : List ℕ) (i j : ℕ) → dot_at (drop i s) j ≡ dot_at s (i + j)
-dot-drop s i j = let at : i + (j + 1) ≡ i + j + 1 = omega arith in rw (get_or-drop i s j 0, drop-drop (j + 1) i s, at)
-
-pub dots-drop : (k : ℕ) (s : List ℕ) (i j : ℕ) → dots_at k (drop i s) j ≡ dots_at k s (i + j)
-unfolding dots_at
-dots-drop zero s i j = refl
-dots-drop (suc k) s i j = let at : i + (j + dot_size) ≡ i + j + dot_size = omega arith in rw (dot-drop s i j, dots-drop k s i (j + dot_size), at)
-
-dot-take : (s : List ℕ) (n j : ℕ) → j + dot_size ≤ n → dot_at (take n s) j ≡ dot_at s j
-dot-take s n j h = rw (get_or-take n s j 0 (omega arith), drop-take (j + 1) n s, take-take 8 (n - (j + 1)) (drop (j + 1) s) (omega arith))
-
-pub dots-take : (k : ℕ) (s : List ℕ) (n j : ℕ) → j + dot_size * k ≤ n → dots_at k (take n s) j ≡ dots_at k s j
-unfolding dots_at
-dots-take zero s n j h = refl
-dots-take (suc k) s n j h = rw (dot-take s n j (omega arith), dots-take k s n (j + dot_size) (omega arith))
 
 dots-split : (m n : ℕ) (s : List ℕ) (a : ℕ) → dots_at (m + n) s a ≡ dots_at m s a ++ dots_at n s (a + m * dot_size)
 unfolding dots_at
@@ -76,6 +61,23 @@ place_le d (x ∷ ds) = go (is_lt (compare_dots x d)) (place_le d ds)
     go : (b : Bool) → place_of d ds ≤ length ds → cond b (suc (place_of d ds)) 0 ≤ suc (length ds)
     go true h = omega arith
     go false h = omega arith
+
+pub placed_within : (s : List ℕ) (d : Dot) (n : ℕ) → n ≡ place_of d (dots_of s) → (n ≡ place_of d (dots_of s)) × (n * dot_size ≤ length s)
+placed_within s d n e = (e, omega (arith, place_le d (dots_of s), length-dots_of s))
+
+-- how many dots come before it, in the words of std's chains
+prefix-place : (d : Dot) (ds : List Dot) → prefix_len (λ x. is_lt (compare_dots x d)) ds ≡ place_of d ds
+unfolding place_of
+prefix-place d [] = refl
+prefix-place d (x ∷ ds) = step (is_lt (compare_dots x d)) (prefix-place d ds)
+  where
+    step : (b : Bool) → prefix_len (λ x. is_lt (compare_dots x d)) ds ≡ place_of d ds
+        → cond b (1 + prefix_len (λ x. is_lt (compare_dots x d)) ds) 0 ≡ cond b (suc (place_of d ds)) 0
+    step true e = omega arith
+    step false e = refl
+
+pub place-prefix : (d : Dot) (ds : List Dot) → length (take (prefix_len (λ x. is_lt (compare_dots x d)) ds) ds) ≡ place_of d ds
+place-prefix d ds = length-prefix_len (λ x. is_lt (compare_dots x d)) ds ∙ prefix-place d ds
 
 -- the two ways to compare
 pub above_not : (d x : Dot) → Less compare_dots d x → is_lt (compare_dots x d) ≡ false

@@ -12,13 +12,13 @@ ghost use Rattle.calls.specs.Promise.{Leaves};
 
 // ---- set-up
 
-// A set name at the front of 16 bytes, the others 0.
-pub fn name_bytes(name: &[u8]) -> [u8; dots::NAME_MOST]
-    requires { length name.now ≤ name_most }
-    ensures { result ≡ padded name_most name.now }
+// Bytes at the front of N bytes, the others 0.
+pub fn padded<const N: usize>(front: &[u8]) -> [u8; N]
+    requires { length front.now ≤ N }
+    ensures { result ≡ padded N front.now }
 {
-    let mut bytes = [0u8; dots::NAME_MOST];
-    moves::put(&mut bytes, 0, name);
+    let mut bytes = [0u8; N];
+    moves::put(&mut bytes, 0, front);
     bytes
 }
 
@@ -27,11 +27,10 @@ pub fn fresh_state(actor: u8, name: &[u8]) -> calls::State
     requires { length name.now ≤ name_most }
     ensures { result ≡ fresh_state actor name.now }
 {
-    let bytes = name_bytes(name);
     calls::State {
         actor: dots::Actor { number: actor },
         name: calls::SetName {
-            bytes: bytes,
+            bytes: padded(name),
             len: name.len(),
         },
         clock: clock::Clock {
@@ -76,20 +75,15 @@ fn compact_done(state: calls::State, store: &mut [u8]) -> calls::Outcome
         &state.tombstone.bytes,
         state.tombstone.count,
     );
-    let actor = state.actor;
-    let named = state.name;
-    let words = state.clock.words;
     calls::Outcome {
         answer: dots::Answer::Done,
         state: calls::State {
-            actor: actor,
-            name: named,
-            clock: clock::Clock { words: words },
             tombstone: calls::Tombstone {
                 bytes: [0u8; dots::TOMBSTONE_SIZE],
                 count: 0,
             },
             used: left,
+            ..state
         },
         written: 0,
     }
@@ -99,12 +93,11 @@ fn compact_done(state: calls::State, store: &mut [u8]) -> calls::Outcome
 pub fn compact(state: calls::State, store: &mut [u8]) -> calls::Outcome
     ensures { Leaves (compact_result state store.old) store.new [] result }
 {
-    let head = judging::head_of(state);
-    let damage = judging::damaged(head, &state.clock.words, &state.tombstone.bytes, store);
+    let damage = judging::damaged(&state, store);
     if damage | (state.tombstone.count == 0) {
         return calls::Outcome {
-            answer: dots::first(damage, dots::Answer::Damaged, dots::Answer::Done),
-            state: state,
+            answer: dots::first_of(&[(damage, dots::Answer::Damaged)]),
+            state,
             written: 0,
         };
     }
@@ -115,7 +108,6 @@ pub fn compact(state: calls::State, store: &mut [u8]) -> calls::Outcome
 pub fn compact_answer(state: calls::State, store: &[u8]) -> dots::Answer
     ensures { result ≡ (compact_result state store.now).answer }
 {
-    let head = judging::head_of(state);
-    let damage = judging::damaged(head, &state.clock.words, &state.tombstone.bytes, store);
-    dots::first(damage, dots::Answer::Damaged, dots::Answer::Done)
+    let damage = judging::damaged(&state, store);
+    dots::first_of(&[(damage, dots::Answer::Damaged)])
 }

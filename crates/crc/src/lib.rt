@@ -25,10 +25,8 @@ pub fn crc(s: &[u8]) -> u32
 {
     let entries = table::entries();
     let mut c = ALL_ONES;
-    let mut i = 0;
-    while i < s.len() {
-        c = step(&entries, c, s[i]);
-        i += 1;
+    for byte in s {
+        c = step(entries, c, *byte);
     }
     c ^ ALL_ONES
 }

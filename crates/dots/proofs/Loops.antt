@@ -1,17 +1,14 @@
--- A loop over dots in bytes: the i-th of n dots starts at byte 9 i. Assumes nothing.
-use mathlib.Core.Path.{◌≡◌, refl, sym, ap, ◌∙◌}
-use mathlib.Core.Bool.{Bool, true, false, ◌&&◌, ◌||◌, and-true, or-false}
+-- Dots by their places in bytes: the i-th of n dots starts at byte 9 i. Assumes nothing.
+use mathlib.Core.Path.{◌≡◌, refl, ap}
 use mathlib.Core.List.{List, [], ◌∷◌}
 use Prim.Native.Nat.{ℕ, zero, suc, ◌+◌, ◌-◌, ◌*◌, ◌/◌, ◌≤◌, ◌<◌}
 use native.Mathlib.Nat.{sub-zero}
 use native.Mathlib.Omega.{arith}
-use lib.Dec.{compare_is_eq}
-use lib.ListN.{length}
-use Rattle.wire.specs.Lists.{is_lt, member}
+use lib.ListN.{length, take, drop}
+use lib.Seq.{get_or-take, get_or-drop, take-take, drop-drop}
+use Rattle.wire.proofs.Parts.{drop-take}
 use Rattle.dots.specs.declared.Dot.{Dot}
-use Rattle.dots.specs.Dots.{compare_dots, dot_ok}
-use Rattle.dots.specs.Wire.{dot_at, dots_at, dots_of, place_of, dot_size}
-use Rattle.dots.proofs.Rules.{ascend_after}
+use Rattle.dots.specs.Wire.{dot_at, dots_at, dots_of, dot_size}
 
 pub length-dots_at : (n : ℕ) (s : List ℕ) (at : ℕ) → length (dots_at n s at) ≡ n
 unfolding dots_at
@@ -43,59 +40,20 @@ module _ (s : List ℕ) where
   unfolding dots_at
   dots-none i h = let none : length s / dot_size - i ≡ 0 = omega arith in rw none
 
--- ---- a test of every dot
+-- ---- dots of a part of the bytes
 
-ascend-step : (ok : Bool) (before d : Dot) (ds : List Dot) → (ok && ascend_after before (d ∷ ds)) ≡ (((ok && dot_ok d) && is_lt (compare_dots before d)) && ascend_after d ds)
-unfolding ascend_after
-ascend-step true before d ds = step (dot_ok d)
-  where
-    step : (b : Bool) → (b && (is_lt (compare_dots before d) && ascend_after d ds)) ≡ ((b && is_lt (compare_dots before d)) && ascend_after d ds)
-    step true = refl
-    step false = refl
-ascend-step false before d ds = refl
+pub dot-drop : (s : List ℕ) (i j : ℕ) → dot_at (drop i s) j ≡ dot_at s (i + j)
+dot-drop s i j = let at : i + (j + 1) ≡ i + j + 1 = omega arith in rw (get_or-drop i s j 0, drop-drop (j + 1) i s, at)
 
-module _ (s : List ℕ) (i : ℕ) (before : Dot) (whole ok : Bool) (inv : whole ≡ (ok && ascend_after before (left s i))) where
-  pub ascend-turn : (d : Dot) (rule above : Bool) → i < length s / dot_size → d ≡ dot_at s (i * dot_size) → rule ≡ dot_ok d → above ≡ is_lt (compare_dots before d)
-      → whole ≡ (((ok && rule) && above) && ascend_after d (left s (i + 1)))
-  ascend-turn d rule above h e f g = (rw (dots-next s i h, ← e) at inv) ∙ rw (f, g) (ascend-step ok before d (left s (i + 1)))
+pub dots-drop : (k : ℕ) (s : List ℕ) (i j : ℕ) → dots_at k (drop i s) j ≡ dots_at k s (i + j)
+unfolding dots_at
+dots-drop zero s i j = refl
+dots-drop (suc k) s i j = let at : i + (j + dot_size) ≡ i + j + dot_size = omega arith in rw (dot-drop s i j, dots-drop k s i (j + dot_size), at)
 
-  pub ascend-end : length s / dot_size ≤ i → ok ≡ whole
-  unfolding ascend_after
-  ascend-end h = sym (rw (dots-none s i h, and-true) at inv)
+pub dot-take : (s : List ℕ) (n j : ℕ) → j + dot_size ≤ n → dot_at (take n s) j ≡ dot_at s j
+dot-take s n j h = rw (get_or-take n s j 0 (omega arith), drop-take (j + 1) n s, take-take 8 (n - (j + 1)) (drop (j + 1) s) (omega arith))
 
--- ---- whether a dot is among them
-
-or_step : (found same : Bool) (rest : Bool) → (found || (same || rest)) ≡ ((found || same) || rest)
-or_step true same rest = refl
-or_step false same rest = refl
-
-module _ (s : List ℕ) (i : ℕ) (dot : Dot) (whole found : Bool) (inv : whole ≡ (found || member compare_dots dot (left s i))) where
-  pub member-turn : (d : Dot) (same : Bool) → i < length s / dot_size → d ≡ dot_at s (i * dot_size) → same ≡ compare_is_eq (compare_dots dot d)
-      → whole ≡ ((found || same) || member compare_dots dot (left s (i + 1)))
-  unfolding member
-  member-turn d same h e f = (rw (dots-next s i h) at inv) ∙ rw (f, e) (or_step found (compare_is_eq (compare_dots dot (dot_at s (i * dot_size)))) (member compare_dots dot (left s (i + 1))))
-
-  pub member-end : length s / dot_size ≤ i → found ≡ whole
-  unfolding member
-  member-end h = sym (rw (dots-none s i h, or-false) at inv)
-
--- ---- the place of a dot
-
-module _ (s : List ℕ) (i : ℕ) (dot : Dot) (whole : ℕ) (inv : whole ≡ i + place_of dot (left s i)) where
-  pub place_here : (d : Dot) (below : Bool) → i < length s / dot_size → d ≡ dot_at s (i * dot_size) → below ≡ is_lt (compare_dots d dot) → below ≡ false → i ≡ whole
-  unfolding place_of
-  place_here d below h e f t =
-      let test : is_lt (compare_dots (dot_at s (i * dot_size)) dot) ≡ false = ap (λ (x : Dot). is_lt (compare_dots x dot)) (sym e) ∙ sym f ∙ t in
-      let here : place_of dot (left s i) ≡ 0 = rw (dots-next s i h, test) in
-      omega arith
-
-  pub place-on : (d : Dot) (below : Bool) → i < length s / dot_size → d ≡ dot_at s (i * dot_size) → below ≡ is_lt (compare_dots d dot) → below ≡ true → whole ≡ i + 1 + place_of dot (left s (i + 1))
-  unfolding place_of
-  place-on d below h e f t =
-      let test : is_lt (compare_dots (dot_at s (i * dot_size)) dot) ≡ true = ap (λ (x : Dot). is_lt (compare_dots x dot)) (sym e) ∙ sym f ∙ t in
-      let on : place_of dot (left s i) ≡ suc (place_of dot (left s (i + 1))) = rw (dots-next s i h, test) in
-      omega arith
-
-  pub place_end : length s / dot_size ≤ i → i ≡ whole
-  unfolding place_of
-  place_end h = let none : place_of dot (left s i) ≡ 0 = rw (dots-none s i h) in omega arith
+pub dots-take : (k : ℕ) (s : List ℕ) (n j : ℕ) → j + dot_size * k ≤ n → dots_at k (take n s) j ≡ dots_at k s j
+unfolding dots_at
+dots-take zero s n j h = refl
+dots-take (suc k) s n j h = rw (dot-take s n j (omega arith), dots-take k s n (j + dot_size) (omega arith))

@@ -1,5 +1,5 @@
 -- "When a controller says no": the table of answers, and a call's refusals in its order.
-use Rattle.std.specs.Prelude.{ℕ, Bool, cond, List, [], ◌∷◌}
+use Rattle.std.specs.Prelude.{ℕ, Bool, false, cond, List, [], ◌∷◌, ◌≡◌, eqb, Result, Ok, Err, MatchResult}
 use Rattle.dots.specs.declared.Answer.{Answer}
 use Rattle.dots.specs.declared.Answer.TheVariants.{Done, Damaged, NoMark, BadVersion, BadShape, BadName, BadDot, OtherSet, OwnAhead, CounterEnd, TooFar, TombstoneFull, StoreFull, OutputShort, BadChecksum, ActorTaken}
 
@@ -31,3 +31,17 @@ Refusals = List (Bool × Answer)
 abbrev pub first_of : Refusals → Answer
 first_of [] = Done
 first_of (r ∷ rs) = cond r.0 r.1 (first_of rs)
+
+-- the answer of a result: done where there is a value, else the refusal
+abbrev pub answer_of : {A : Type 0} → Result A Answer → Answer
+answer_of (Ok x) = Done
+answer_of (Err a) = a
+
+-- how many bytes a result says were put out: none where it is refused
+abbrev pub written_of : Result ℕ Answer → ℕ
+written_of (Ok n) = n
+written_of (Err a) = 0
+
+-- r is a value where the answer a is done, and the refusal a where it is none
+abbrev pub Answered : {A : Type 0} → Answer → Result A Answer → Type 0
+Answered a r = MatchResult r (λ _. a ≡ Done) (λ e. (a ≡ e) × (eqb (number_of a) 0 ≡ false))

@@ -2,13 +2,13 @@
 
 #![tactic(auto)]
 
-ghost use Rattle.std.specs.Prelude.{◌≡◌, cond, ◌+◌, ◌≤◌, length};
-ghost use Rattle.std.proofs.Math.Dec.{compare_is_eq};
-ghost use Rattle.wire.specs.Lists.{is_lt, all};
-ghost use Rattle.dots.specs.Answer.{number_of};
+ghost use Rattle.std.specs.Prelude.{◌≡◌, ◌+◌, ◌≤◌, length};
+ghost use Rattle.std.specs.Iterator.{YieldsFirst, item_count};
+ghost use Rattle.wire.specs.Lists.{all};
+ghost use Rattle.dots.specs.Answer.{number_of, first_of};
 ghost use Rattle.dots.specs.Names.{text_ok, name_ok, label_ok, prints, label_prints};
-ghost use Rattle.dots.specs.Dots.{compare_dots, dot_ok};
-ghost use Rattle.dots.specs.Wire.{dot_bytes, dot_at, dot_size};
+ghost use Rattle.dots.specs.Dots.{dot_ok};
+ghost use Rattle.dots.specs.Wire.{dot_bytes, dot_at, dots_of, dot_size};
 
 // ---- limits
 
@@ -33,56 +33,46 @@ pub const TOMBSTONE_SIZE: usize = TOMBSTONE_MOST * DOT_SIZE;
 
 // ---- answers
 
-// The answers of the table, in its order.
-#[derive(Clone, Copy)]
+// The answers of the table, with its numbers.
+#[derive(Clone, Copy, PartialEq, Eq)]
 pub enum Answer {
-    Done,
-    Damaged,
-    NoMark,
-    BadVersion,
-    BadShape,
-    BadName,
-    BadDot,
-    OtherSet,
-    OwnAhead,
-    CounterEnd,
-    TooFar,
-    TombstoneFull,
-    StoreFull,
-    OutputShort,
-    BadChecksum,
-    ActorTaken,
+    Done = 0,
+    Damaged = 1,
+    NoMark = 2,
+    BadVersion = 3,
+    BadShape = 4,
+    BadName = 5,
+    BadDot = 6,
+    OtherSet = 7,
+    OwnAhead = 8,
+    CounterEnd = 9,
+    TooFar = 10,
+    TombstoneFull = 11,
+    StoreFull = 12,
+    OutputShort = 13,
+    BadChecksum = 14,
+    ActorTaken = 15,
 }
 
 // The table's number of an answer.
-pub fn number_of(answer: Answer) -> u8
-    ensures { result ≡ number_of answer }
-{
-    match answer {
-        Answer::Done => 0,
-        Answer::Damaged => 1,
-        Answer::NoMark => 2,
-        Answer::BadVersion => 3,
-        Answer::BadShape => 4,
-        Answer::BadName => 5,
-        Answer::BadDot => 6,
-        Answer::OtherSet => 7,
-        Answer::OwnAhead => 8,
-        Answer::CounterEnd => 9,
-        Answer::TooFar => 10,
-        Answer::TombstoneFull => 11,
-        Answer::StoreFull => 12,
-        Answer::OutputShort => 13,
-        Answer::BadChecksum => 14,
-        Answer::ActorTaken => 15,
+impl From<Answer> for u8 {
+    ghost from_gives = { λ a n. n ≡ number_of a };
+
+    fn from(answer: Answer) -> u8 {
+        answer as u8
     }
 }
 
-// A row of a table of refusals: its answer if its test holds, or else what comes after it.
-pub fn first(holds: bool, answer: Answer, rest: Answer) -> Answer
-    ensures { result ≡ cond holds answer rest }
+// The first refusal of a table that holds, else done.
+pub fn first_of(rows: &[(bool, Answer)]) -> Answer
+    ensures { result ≡ first_of rows.now }
 {
-    if holds { answer } else { rest }
+    for (holds, answer) in rows {
+        if *holds {
+            return *answer;
+        }
+    }
+    Answer::Done
 }
 
 // ---- names and labels
@@ -107,16 +97,13 @@ pub fn label_ok(label: &[u8]) -> bool
     text_ok(LABEL_MOST, label)
 }
 
-// Whether every byte prints.
+// Whether every byte prints. Each byte is looked at: `all` stops at the first that does not print, and was measured to be slower.
 fn all_print(text: &[u8]) -> bool
     ensures { result ≡ all prints text.now }
 {
     let mut ok = true;
-    let mut i = 0;
-    while i < text.len() {
-        let b = text[i];
-        ok = ok & ((PRINT_LOW <= b) & (b <= PRINT_HIGH));
-        i += 1;
+    for b in text {
+        ok &= (PRINT_LOW <= *b) & (*b <= PRINT_HIGH);
     }
     ok
 }
@@ -134,37 +121,22 @@ pub fn label_prints(label: &[u8]) -> bool
 // ---- dots
 
 // The number of a controller, 1 to 16.
-#[derive(Clone, Copy)]
+#[derive(Clone, Copy, Default, PartialEq, Eq, PartialOrd, Ord)]
 pub struct Actor {
     pub number: u8,
 }
 
 // The number of an event of one actor, 1 and up.
-#[derive(Clone, Copy)]
+#[derive(Clone, Copy, Default, PartialEq, Eq, PartialOrd, Ord)]
 pub struct Counter {
     pub number: u64,
 }
 
 // An event: its actor and its number there.
-#[derive(Clone, Copy)]
+#[derive(Clone, Copy, Default, PartialEq, Eq, PartialOrd, Ord)]
 pub struct Dot {
     pub actor: Actor,
     pub counter: Counter,
-}
-
-// Whether a comes before b: by actor, then counter.
-pub fn dot_lower(a: Dot, b: Dot) -> bool
-    ensures { result ≡ is_lt (compare_dots a b) }
-{
-    (a.actor.number < b.actor.number)
-        | ((a.actor.number == b.actor.number) & (a.counter.number < b.counter.number))
-}
-
-// Whether two dots are the same.
-pub fn same_dot(a: Dot, b: Dot) -> bool
-    ensures { result ≡ compare_is_eq (compare_dots a b) }
-{
-    (a.actor.number == b.actor.number) & (a.counter.number == b.counter.number)
 }
 
 // Whether a dot keeps its rule.
@@ -176,7 +148,7 @@ pub fn dot_ok(dot: Dot) -> bool
 
 // ---- dots in bytes, nine each
 
-// The dot in the 9 bytes from a place on.
+// The dot in the 9 bytes from a place on. A function and no `From`: the bytes are longer than a dot.
 pub fn dot_at(s: &[u8], at: usize) -> Dot
     requires { at + dot_size ≤ length s.now }
     ensures { result ≡ dot_at s.now at }
@@ -189,11 +161,43 @@ pub fn dot_at(s: &[u8], at: usize) -> Dot
     }
 }
 
-// A dot in 9 bytes.
+// A dot in 9 bytes, written out: `copy_from_slice` would call memmove, which the library may not.
 pub fn dot_bytes(dot: Dot) -> [u8; DOT_SIZE]
     ensures { result ≡ dot_bytes dot }
 {
     let c = wire::number_bytes(dot.counter.number);
     let actor = dot.actor.number;
     [actor, c[0], c[1], c[2], c[3], c[4], c[5], c[6], c[7]]
+}
+
+// The dots that bytes hold, from the first on; bytes that are left over are none.
+#[derive(Clone, Copy)]
+pub struct Dots<'a> {
+    pub bytes: &'a [u8],
+}
+
+impl<'a> Iterator for Dots<'a> {
+    type Item = Dot;
+
+    ghost next_gives = { YieldsFirst (λ s. dots_of s.bytes.now) };
+
+    ghost remaining = { item_count (λ s. dots_of s.bytes.now) };
+
+    fn next(&mut self) -> Option<Dot> {
+        let (front, rest) = self.bytes.split_first_chunk::<DOT_SIZE>()?;
+        self.bytes = rest;
+        Some(dot_at(front, 0))
+    }
+
+    fn size_hint(&self) -> (usize, Option<usize>) {
+        let count = self.bytes.len() / DOT_SIZE;
+        (count, Some(count))
+    }
+}
+
+// A loop over the dots that bytes hold.
+pub fn dots_in<'a>(bytes: &'a [u8]) -> Dots<'a>
+    ensures { result.bytes ≡ bytes.entry }
+{
+    Dots { bytes: bytes }
 }

@@ -1,5 +1,5 @@
 -- Fields of an image as the code reads them: the CRC, the state, and whether it is damaged. Assumes nothing.
-use Prim.Native.Nat.{ℕ, ◌+◌, ◌-◌, ◌^◌, ◌≤◌, ◌<◌}
+use Prim.Native.Nat.{ℕ, ◌-◌, ◌^◌, ◌≤◌, ◌<◌}
 use mathlib.Core.Path.{◌≡◌, refl, ap, ◌∙◌}
 use mathlib.Core.Bool.{Bool, true, false}
 use mathlib.Core.List.{List}
@@ -11,7 +11,7 @@ use Rattle.wire.specs.Bytes.{Bytes, AreBytes, byte_at, big_endian, from_big_endi
 use Rattle.wire.proofs.Tests.{both_ways, pass}
 use Rattle.wire.proofs.Lists.{tie-is}
 use Rattle.wire.proofs.Orders.{bytes_lawful}
-use Rattle.wire.proofs.Parts.{rest_part, size-part}
+use Rattle.wire.proofs.Parts.{rest_part}
 use Rattle.wire.proofs.BigEndian.{from-big_endian, big_endian-from}
 use Rattle.wire.proofs.Fields.{part-written, put_front}
 use Rattle.crc.specs.Crc.{crc_of}
@@ -19,10 +19,8 @@ use Rattle.dots.specs.declared.Answer.TheVariants.{Done}
 use Rattle.dots.specs.Names.{name_most}
 use Rattle.dots.specs.Dots.{actor_of, actor_most, tombstone_most}
 use Rattle.dots.specs.Wire.{tombstone_size}
-use Rattle.calls.specs.declared.SetName.{SetName}
 use Rattle.calls.specs.declared.State.{State}
 use Rattle.calls.specs.declared.ImageLayout.{ImageLayout}
-use Rattle.calls.specs.State.{state_from}
 use Rattle.calls.specs.Damage.{damaged}
 use Rattle.calls.specs.Effect.{padded}
 use Rattle.calls.specs.ImageRead.{crc_ok, clock_in, state_at, written_at}
@@ -60,23 +58,22 @@ module _ (s : Bytes) (small : AreBytes s) (long : 4 ≤ length s) (crc last : �
 
 -- ---- the state of the fields
 
-module _ (s : Bytes) (l : ImageLayout) (name : SetName) (words : List ℕ) (bytes : Bytes) (named : name ≡ record { bytes = padded name_most (part_of s l.name); len = l.name.len })
-    (clock : words ≡ clock_in window_size actor_most s l.rows) (removed : bytes ≡ padded tombstone_size (part_of s l.dots)) where
-  pub state-made : (actor : ℕ) → ◌≡◌ {A = State} (record {
-    actor = actor_of actor;
-    name = name;
-    clock = record { words = words };
-    tombstone = record { bytes = bytes; count = l.count };
-    used = l.keys.len;
-  }) (state_at actor s l)
+module _ (s : Bytes) (l : ImageLayout) where
+  pub state-made : (name words bytes : List ℕ) (actor : ℕ) → name ≡ padded name_most (part_of s l.name) → words ≡ clock_in window_size actor_most s l.rows → bytes ≡ padded tombstone_size (part_of s l.dots)
+      → ◌≡◌ {A = State} (record {
+        actor = actor_of actor;
+        name = record { bytes = name; len = l.name.len };
+        clock = record { words = words };
+        tombstone = record { bytes = bytes; count = l.count };
+        used = l.keys.len;
+      }) (state_at actor s l)
   unfolding state_at
-  state-made actor = rw (named, clock, removed)
+  state-made name words bytes actor named clock removed = rw (named, clock, removed)
 
   -- the keys judged where they stand
-  pub judged : (writer : ℕ) (r : Bool) → writer ≡ byte_at s l.actor
-      → r ≡ damaged (state_from (record { name = name; count = l.count; used = l.keys.len; actor = actor_of writer }) words bytes) (take (l.keys.at + l.keys.len - l.keys.at) (drop l.keys.at s))
+  pub judged : (writer : ℕ) (st : State) (keys : Bytes) (r : Bool) → writer ≡ byte_at s l.actor → st ≡ state_at writer s l → keys ≡ part_of s l.keys → r ≡ damaged st keys
       → r ≡ damaged (written_at s l) (part_of s l.keys)
-  judged writer r w e = e ∙ rw (size-part s l.keys.at l.keys.len, state-made writer, w)
+  judged writer st keys r w e k j = j ∙ rw (e, k, w)
 
 -- more dots than a tombstone may have are damage
 pub too_many : (s : Bytes) (l : ImageLayout) → tombstone_most < l.count → true ≡ damaged (written_at s l) (part_of s l.keys)
@@ -87,10 +84,10 @@ too_many s l many = by (damaged (written_at s l) (part_of s l.keys)) (few-dots (
     by false few = absurd (omega (arith, few refl))
 
 -- what loading leaves: state and keys at their places
-pub load-made : (actor : ℕ) (s store store' : Bytes) (l : ImageLayout) (st : State) → st ≡ state_at actor s l
-    → store' ≡ put_at store 0 (take (l.keys.at + l.keys.len - l.keys.at) (drop l.keys.at s)) → LoadsImage (loaded_at actor s store l) store' (record { answer = Done; state = st })
-load-made actor s store store' l st e f = record {
+pub load-made : (actor : ℕ) (s store store' keys : Bytes) (l : ImageLayout) (st : State) → st ≡ state_at actor s l → keys ≡ part_of s l.keys → store' ≡ put_at store 0 keys
+    → LoadsImage (loaded_at actor s store l) store' (record { answer = Done; state = st })
+load-made actor s store store' keys l st e k f = record {
   answered = refl;
   state-is = e;
-  store_is = f ∙ put_front store (take (l.keys.at + l.keys.len - l.keys.at) (drop l.keys.at s)) ∙ rw (size-part s l.keys.at l.keys.len);
+  store_is = f ∙ put_front store keys ∙ rw k;
 }

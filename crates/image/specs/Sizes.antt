@@ -3,7 +3,7 @@ use Rattle.std.specs.Prelude.{ℕ, ◌+◌, ◌*◌}
 use Rattle.dots.specs.Dots.{actor_most}
 use Rattle.dots.specs.Wire.{dot_size}
 use Rattle.messages.specs.Message.{front_fixed}
-use Rattle.calls.specs.declared.Head.{Head}
+use Rattle.calls.specs.declared.State.{State}
 use Rattle.calls.specs.Image.{image_version, window_bytes, row_size}
 
 -- a window and all rows, in the version that is written
@@ -24,6 +24,6 @@ rest_fixed = rows_size + 1 + 4
 abbrev pub image_fixed : ℕ
 image_fixed = actor_fixed + rest_fixed + 4
 
--- an image by the head of its state
-abbrev pub image_size : Head → ℕ
-image_size head = image_fixed + head.name.len + head.count * dot_size + head.used
+-- an image by its state
+abbrev pub image_size : State → ℕ
+image_size st = image_fixed + st.name.len + st.tombstone.count * dot_size + st.used

@@ -5,7 +5,8 @@ use Rattle.dots.specs.Names.{Name, name_most}
 use Rattle.dots.specs.Dots.{tombstone_most}
 use Rattle.dots.specs.Wire.{tombstone_size}
 use Rattle.store.specs.Valid.{store_most}
-use Rattle.calls.specs.declared.Head.{Head}
+use Rattle.calls.specs.declared.State.{State}
+use Rattle.calls.specs.State.{Sized}
 use Rattle.calls.specs.Effect.{put_out}
 use Rattle.calls.specs.Image.{image_version, image_front, image_rest, with_crc}
 use Rattle.image.specs.Sizes.{actor_fixed, rest_fixed, image_fixed}
@@ -43,10 +44,10 @@ pub record PutsImage (image out out' : Bytes) (r : ℕ) : Type 0 where
   pub size : r ≡ length image
   pub bytes : out' ≡ put_out image out
 
--- the lengths of an undamaged state, with its tombstone's bytes and its store
-pub record Writable (head : Head) (tombstone store : ℕ) : Type 0 where
-  pub short-name : head.name.len ≤ name_most
-  pub few : head.count ≤ tombstone_most
-  pub size : tombstone ≡ tombstone_size
-  pub used-fits : head.used ≤ store
+-- the lengths of an undamaged state, and that of its store
+pub record Writable (st : State) (store : ℕ) : Type 0 where
+  pub sized : Sized st
+  pub short-name : st.name.len ≤ name_most
+  pub few : st.tombstone.count ≤ tombstone_most
+  pub used-fits : st.used ≤ store
   pub store-fits : store ≤ store_most

@@ -8,12 +8,9 @@ ghost use Rattle.crc.specs.Crc.{crc_of};
 ghost use Rattle.dots.specs.Answer.{first_of};
 ghost use Rattle.dots.specs.Names.{name_most};
 ghost use Rattle.dots.specs.Dots.{actor_most, tombstone_most};
-ghost use Rattle.dots.specs.Wire.{tombstone_size};
 ghost use Rattle.clock.specs.Code.{row_of};
 ghost use Rattle.store.specs.Valid.{store_most};
-ghost use Rattle.calls.specs.State.{state_from};
 ghost use Rattle.calls.specs.Damage.{damaged as is_damaged};
-ghost use Rattle.calls.specs.Effect.{padded};
 ghost use Rattle.calls.specs.Image.{row_size, row_bytes, rows_bytes, image_bytes};
 ghost use Rattle.calls.specs.ImageRead.{four_at, version_ok, layout_of, shape_ok, Within, crc_ok, row_in, clock_in, state_at, written_at, free_of, writer_ok};
 ghost use Rattle.calls.specs.HandOff.{image_result, load_refusals, loaded_at, load_result};
@@ -41,13 +38,6 @@ pub const IMAGE_FIXED: usize = messages::REMOVE_FIXED + 1 + ROWS_SIZE + USED_SIZ
 
 // ---- writing
 
-// What writing an image gives: the answer, and how many bytes were put out.
-#[derive(Clone, Copy)]
-pub struct ImageWritten {
-    pub answer: dots::Answer,
-    pub written: usize,
-}
-
 // Puts a row at a place. Returns the place after it.
 fn put_row(out: &mut [u8], at: usize, row: clock::Row) -> usize
     requires { at + row_size window_size ≤ length out.old }
@@ -63,10 +53,8 @@ fn put_rows(out: &mut [u8], at: usize, words: &clock::Words) -> usize
     ensures { (result ≡ at + rows_size) × (out.new ≡ put_at out.old at (rows_bytes window_size actor_most words.now)) }
 {
     let mut next = at;
-    let mut a: u8 = 0;
-    while a < dots::ACTOR_MOST {
-        a = a + 1;
-        let row = clock::row_of(words, dots::Actor { number: a });
+    for a in 0..dots::ACTOR_MOST {
+        let row = clock::row_of(words, dots::Actor { number: a + 1 });
         next = put_row(out, next, row);
     }
     next
@@ -78,8 +66,7 @@ fn put_front(out: &mut [u8], name: &[u8], actor: u8) -> usize
     ensures { FrontPut name.now actor out.old out.new result }
 {
     let next = messages::put_front(out, IMAGE_KIND, name);
-    let writer = [actor];
-    moves::put(out, next, &writer)
+    moves::put(out, next, &[actor])
 }
 
 // Puts the used length and the keys.
@@ -129,62 +116,40 @@ fn put_parts(
 }
 
 // Puts the image of a state and its store.
-fn put_image<'a>(
-    out: &mut [u8],
-    head: calls::Head,
-    words: &'a clock::Words,
-    tombstone: &'a [u8],
-    store: &[u8],
-) -> usize
-    requires { Writable head (length tombstone.now) (length store.now) × (image_size head ≤ length out.old) }
-    ensures { PutsImage (image_bytes (state_from head words.now tombstone.now) store.now) out.old out.new result }
+fn put_image(out: &mut [u8], state: &calls::State, store: &[u8]) -> usize
+    requires { Writable state.now (length store.now) × (image_size state.now ≤ length out.old) }
+    ensures { PutsImage (image_bytes state.now store.now) out.old out.new result }
 {
-    let name = head.name.bytes;
-    let len = head.name.len;
-    let size = head.count * dots::DOT_SIZE;
-    let used = head.used;
+    let size = state.tombstone.count * dots::DOT_SIZE;
     put_parts(
         out,
-        head.actor.number,
-        &name[..len],
-        words,
-        &tombstone[..size],
-        &store[..used],
+        state.actor.number,
+        &state.name.bytes[..state.name.len],
+        &state.clock.words,
+        &state.tombstone.bytes[..size],
+        &store[..state.used],
     )
 }
 
 // How long an image is.
-fn image_size(head: calls::Head) -> usize
-    requires { (head.name.len ≤ name_most) × (head.count ≤ tombstone_most) × (head.used ≤ store_most) }
-    ensures { result ≡ image_size head }
+fn image_size(state: &calls::State) -> usize
+    requires { (state.now.name.len ≤ name_most) × (state.now.tombstone.count ≤ tombstone_most) × (state.now.used ≤ store_most) }
+    ensures { result ≡ image_size state.now }
 {
-    IMAGE_FIXED + head.name.len + head.count * dots::DOT_SIZE + head.used
+    IMAGE_FIXED + state.name.len + state.tombstone.count * dots::DOT_SIZE + state.used
 }
 
-// Writes an image.
-pub fn write_image(state: calls::State, store: &[u8], out: &mut [u8]) -> ImageWritten
+// Writes an image. Tells how many bytes were put out.
+pub fn write_image(state: calls::State, store: &[u8], out: &mut [u8]) -> Result<usize, dots::Answer>
     ensures { WritesImage (image_result state store.now out.old) out.new result }
 {
-    let head = judging::head_of(state);
-    let words = &state.clock.words;
-    let tombstone = &state.tombstone.bytes;
-    if judging::damaged(head, words, tombstone, store) {
-        return ImageWritten {
-            answer: dots::Answer::Damaged,
-            written: 0,
-        };
+    if judging::damaged(&state, store) {
+        return Err(dots::Answer::Damaged);
     }
-    if out.len() < image_size(head) {
-        return ImageWritten {
-            answer: dots::Answer::OutputShort,
-            written: 0,
-        };
+    if out.len() < image_size(&state) {
+        return Err(dots::Answer::OutputShort);
     }
-    let written = put_image(out, head, words, tombstone, store);
-    ImageWritten {
-        answer: dots::Answer::Done,
-        written: written,
-    }
+    Ok(put_image(out, &state, store))
 }
 
 // ---- reading
@@ -218,11 +183,11 @@ fn layout_of(s: &[u8]) -> calls::ImageLayout
     let used_at = dots.at + dots.len;
     let used = four_at(s, used_at);
     calls::ImageLayout {
-        name: name,
-        actor: actor,
-        rows: rows,
-        count: count,
-        dots: dots,
+        name,
+        actor,
+        rows,
+        count,
+        dots,
         keys: wire::Span {
             at: used_at + USED_SIZE,
             len: used,
@@ -247,39 +212,19 @@ fn words_in(s: &[u8], at: usize) -> clock::Words
     ensures { result ≡ clock_in window_size actor_most s.now at }
 {
     let mut words = [0u64; clock::CLOCK_WORDS];
-    let mut a: u8 = 0;
-    while a < dots::ACTOR_MOST {
+    for a in 0..dots::ACTOR_MOST {
         let row = row_in(s, at + a as usize * ROW_SIZE);
-        a = a + 1;
-        clock::set_row(&mut words, dots::Actor { number: a }, row);
+        clock::set_row(&mut words, dots::Actor { number: a + 1 }, row);
     }
     words
 }
 
-// The set name in a stretch.
-fn name_in(s: &[u8], field: wire::Span) -> calls::SetName
-    requires { (field.len ≤ name_most) × (end_of field ≤ length s.now) }
-    ensures { result ≡ record { bytes = padded name_most (part_of s.now field); len = field.len } }
+// The bytes of a stretch.
+fn bytes_in<'a>(s: &'a [u8], field: wire::Span) -> &'a [u8]
+    requires { end_of field ≤ length s.now }
+    ensures { result.now ≡ part_of s.now field }
 {
-    let at = field.at;
-    let end = at + field.len;
-    let bytes = controller::name_bytes(&s[at..end]);
-    calls::SetName {
-        bytes: bytes,
-        len: field.len,
-    }
-}
-
-// The dots in a stretch, and zeros after them.
-fn dots_in(s: &[u8], field: wire::Span) -> [u8; dots::TOMBSTONE_SIZE]
-    requires { (field.len ≤ tombstone_size) × (end_of field ≤ length s.now) }
-    ensures { result ≡ padded tombstone_size (part_of s.now field) }
-{
-    let mut bytes = [0u8; dots::TOMBSTONE_SIZE];
-    let at = field.at;
-    let end = at + field.len;
-    moves::put(&mut bytes, 0, &s[at..end]);
-    bytes
+    &s[field.at..field.at + field.len]
 }
 
 // The state of the fields, under an actor.
@@ -287,15 +232,17 @@ fn state_in(actor: u8, s: &[u8], l: calls::ImageLayout) -> calls::State
     requires { Named s.now l × (l.count ≤ tombstone_most) }
     ensures { result ≡ state_at actor s.now l }
 {
-    let name = name_in(s, l.name);
-    let words = words_in(s, l.rows);
-    let bytes = dots_in(s, l.dots);
     calls::State {
         actor: dots::Actor { number: actor },
-        name: name,
-        clock: clock::Clock { words: words },
+        name: calls::SetName {
+            bytes: controller::padded(bytes_in(s, l.name)),
+            len: l.name.len,
+        },
+        clock: clock::Clock {
+            words: words_in(s, l.rows),
+        },
         tombstone: calls::Tombstone {
-            bytes: bytes,
+            bytes: controller::padded(bytes_in(s, l.dots)),
             count: l.count,
         },
         used: l.keys.len,
@@ -350,42 +297,26 @@ fn writer_ok(s: &[u8], l: calls::ImageLayout) -> bool
 }
 
 // Whether the contents are a damaged state under the writer's actor. The keys are judged where they stand.
-fn contents_damaged(s: &[u8], l: calls::ImageLayout, words: &clock::Words) -> bool
-    requires { Named s.now l × (words.now ≡ clock_in window_size actor_most s.now l.rows) }
+fn contents_damaged(s: &[u8], l: calls::ImageLayout) -> bool
+    requires { Named s.now l }
     ensures { result ≡ is_damaged (written_at s.now l) (part_of s.now l.keys) }
 {
     if dots::TOMBSTONE_MOST < l.count {
         return true;
     }
-    let name = name_in(s, l.name);
-    let tombstone = dots_in(s, l.dots);
-    let writer = wire::byte_at(s, l.actor);
-    let head = calls::Head {
-        name: name,
-        count: l.count,
-        used: l.keys.len,
-        actor: dots::Actor { number: writer },
-    };
-    let at = l.keys.at;
-    let end = at + l.keys.len;
-    judging::damaged(head, words, &tombstone, &s[at..end])
+    let state = state_in(wire::byte_at(s, l.actor), s, l);
+    judging::damaged(&state, bytes_in(s, l.keys))
 }
 
 // Refusals 6 and 12, for a store of so many bytes.
-fn late_answer(room: usize, s: &[u8], l: calls::ImageLayout, words: &clock::Words) -> dots::Answer
-    requires { Named s.now l × (words.now ≡ clock_in window_size actor_most s.now l.rows) }
+fn late_answer(room: usize, s: &[u8], l: calls::ImageLayout) -> dots::Answer
+    requires { Named s.now l }
     ensures { result ≡ first_of (late_refusals room s.now l) }
 {
-    let damage = contents_damaged(s, l, words);
-    dots::first(
-        damage,
-        dots::Answer::BadDot,
-        dots::first(
-            room < l.keys.len,
-            dots::Answer::StoreFull,
-            dots::Answer::Done,
-        ),
-    )
+    dots::first_of(&[
+        (contents_damaged(s, l), dots::Answer::BadDot),
+        (room < l.keys.len, dots::Answer::StoreFull),
+    ])
 }
 
 // Refusals 14, 15 and 5, then those of the contents.
@@ -394,17 +325,16 @@ fn checked_answer(actor: u8, room: usize, s: &[u8], l: calls::ImageLayout) -> do
     ensures { result ≡ first_of (checked_refusals actor room s.now l) }
 {
     let words = words_in(s, l.rows);
-    let bad_crc = !crc_ok(s);
-    let taken = !actor_free(actor, wire::byte_at(s, l.actor), &words);
-    let bad_name = !writer_ok(s, l);
-    if bad_crc | taken | bad_name {
-        return dots::first(
-            bad_crc,
-            dots::Answer::BadChecksum,
-            dots::first(taken, dots::Answer::ActorTaken, dots::Answer::BadName),
-        );
+    let free = actor_free(actor, wire::byte_at(s, l.actor), &words);
+    let answer = dots::first_of(&[
+        (!crc_ok(s), dots::Answer::BadChecksum),
+        (!free, dots::Answer::ActorTaken),
+        (!writer_ok(s, l), dots::Answer::BadName),
+    ]);
+    if answer != dots::Answer::Done {
+        return answer;
     }
-    late_answer(room, s, l, &words)
+    late_answer(room, s, l)
 }
 
 // Refusals 1 to 4, then those of an image that has its shape.
@@ -412,24 +342,14 @@ fn load_answer(actor: u8, s: &[u8], l: calls::ImageLayout, store: &[u8]) -> dots
     requires { (l ≡ layout_of s.now) × Small l }
     ensures { result ≡ first_of (load_refusals actor s.now store.now) }
 {
-    let long = store::STORE_MOST < store.len();
-    let no_mark = !messages::mark_ok(s);
-    let bad_version = !version_ok(s);
-    let bad_shape = !shape_ok(s, l);
-    if long | no_mark | bad_version | bad_shape {
-        return dots::first(
-            long,
-            dots::Answer::Damaged,
-            dots::first(
-                no_mark,
-                dots::Answer::NoMark,
-                dots::first(
-                    bad_version,
-                    dots::Answer::BadVersion,
-                    dots::Answer::BadShape,
-                ),
-            ),
-        );
+    let answer = dots::first_of(&[
+        (store::STORE_MOST < store.len(), dots::Answer::Damaged),
+        (!messages::mark_ok(s), dots::Answer::NoMark),
+        (!version_ok(s), dots::Answer::BadVersion),
+        (!shape_ok(s, l), dots::Answer::BadShape),
+    ]);
+    if answer != dots::Answer::Done {
+        return answer;
     }
     checked_answer(actor, store.len(), s, l)
 }
@@ -441,9 +361,7 @@ fn load_done(actor: u8, s: &[u8], l: calls::ImageLayout, store: &mut [u8]) -> ca
     requires { Loadable s.now l (length store.old) }
     ensures { LoadsImage (loaded_at actor s.now store.old l) store.new result }
 {
-    let at = l.keys.at;
-    let end = at + l.keys.len;
-    moves::put(store, 0, &s[at..end]);
+    moves::put(store, 0, bytes_in(s, l.keys));
     calls::SetUp {
         answer: dots::Answer::Done,
         state: state_in(actor, s, l),
@@ -456,9 +374,9 @@ pub fn load(actor: u8, image: &[u8], store: &mut [u8]) -> calls::SetUp
 {
     let l = layout_of(image);
     let answer = load_answer(actor, image, l, store);
-    if dots::number_of(answer) != 0 {
+    if answer != dots::Answer::Done {
         return calls::SetUp {
-            answer: answer,
+            answer,
             state: controller::fresh_state(0, &image[0..0]),
         };
     }

@@ -3,7 +3,7 @@ use Prim.Native.Nat.{ℕ, ◌≤◌}
 use mathlib.Core.Path.{◌≡◌, refl, sym, ap, subst, ◌∙◌}
 use mathlib.Core.Bool.{Bool, true, false, not, cond, ◌||◌}
 use mathlib.Core.Logic.{◌⊎◌, inl, inr}
-use mathlib.Core.List.{[], ◌∷◌}
+use mathlib.Core.List.{[], ◌∷◌, ◌++◌}
 use native.Mathlib.Omega.{arith}
 use lib.Dec.{compare_is_eq}
 use lib.ListN.{length}
@@ -23,10 +23,12 @@ use Rattle.dots.specs.Message.{Message, add, remove, offered_of}
 use Rattle.dots.proofs.Table.{NoneHolds, none-holds}
 use Rattle.dots.proofs.Rules.{ascending-valid, prints-ok}
 use Rattle.clock.specs.Clock.{row_at}
-use Rattle.messages.specs.declared.MessageRead.{MessageRead}
-use Rattle.messages.specs.Message.{add_kind, message_ok}
-use Rattle.messages.specs.Read.{name_of as message_name, message_of, read_refusals, read_answer, accepted, no_message, read_of}
-use Rattle.messages.proofs.Accepted.{Found, found, read-answers}
+use Rattle.messages.specs.declared.MessageKind.{MessageKind}
+use Rattle.messages.specs.declared.MessageKind.TheVariants.{Remove}
+use Rattle.messages.specs.Message.{add_kind, remove_kind, kind_byte, message_ok}
+use Rattle.messages.specs.declared.MessageFields.{MessageFields}
+use Rattle.messages.specs.Read.{MessageRead, name_of as message_name, message_of, read_refusals, read_answer, accepted, no_message, read_of, read_as}
+use Rattle.messages.proofs.Accepted.{Found, found, read-answers, refusal_read}
 use Rattle.store.specs.Valid.{store_most}
 use Rattle.replica.specs.Machine.{take_in, apply, effect}
 use Rattle.calls.specs.declared.State.{State}
@@ -37,15 +39,21 @@ use Rattle.calls.specs.Refusals.{other_set, own_ahead, too_far, tombstone_full, 
 use Rattle.calls.specs.Calls.{to_store, take_in_refusals, take_in_done, take_in_result}
 use Rattle.calls.specs.Promise.{Leaves}
 use Rattle.steps.specs.declared.Lent.{Lent}
-use Rattle.steps.specs.Tests.{ahead_of, ContextFits, add_late, remove_late, Told, MayOffer, MayApply, MayRemove, removed_state, done_with}
+use Rattle.std.specs.Prelude.{Result, Ok, Err}
+use Rattle.steps.proofs.Passed.{passed-refused, refused-is, passed-is, rows-stop, rows-pass}
+use Rattle.steps.specs.Tests.{passed, ahead_of, ContextFits, add_late, remove_late, Told, MayOffer, MayApply, MayRemove, removed_state, done_with}
 use Rattle.judging.specs.Judging.{state_ok}
-use Rattle.intake.specs.Work.{taken_late, taken_of, taken_answer, TakeAnswers, MayJudge, MayTakeIn, TookAdd, TakenIn}
+use Rattle.intake.specs.Work.{taken_late, taken_of, taken_early, TakeAnswers, TakesIn, MayJudge, MayTakeIn, TookAdd, TakenIn}
 use Rattle.calls.proofs.Clauses.{undamaged, used-fits, store-fits}
 use Rattle.steps.proofs.Performed.{removed-state, removed-store}
 use Rattle.steps.proofs.Answers.{stops, none_of, passes, leaves_refused, leaves_done, state-kept}
 use Rattle.steps.proofs.Adds.{name-length, store-full}
 
 -- ---- the message that was read
+
+-- a remove is no add
+pub not_add : (kind : MessageKind) → kind ≡ Remove → kind_byte kind ≡ add_kind → ⊥
+not_add kind e z = let same : remove_kind ≡ add_kind = sym (ap kind_byte e) ∙ z in omega (arith, same)
 
 none_read : (s : Bytes) → accepted s ≡ false → read_of s ≡ no_message (read_answer s)
 unfolding read_of
@@ -108,12 +116,12 @@ module _ (s : Bytes) (r : MessageRead) (f : Found s r) where
         context-ok (search both)
 
     -- the later refusals of its parts are those of the message
-    module _ (st : State) (size : ℕ) (given : Bytes) (given_is : given ≡ part_of s r.name) (q : Answer) where
-      pub late-add : (label : Bytes) → r.kind ≡ add_kind → label ≡ part_of s r.label → q ≡ first_of (taken_late st size given (add label r.dot (dots_of context)))
-          → q ≡ first_of (taken_late st size (message_name s) (message_of s))
+    module _ (st : State) (size : ℕ) (given : Bytes) (given_is : given ≡ part_of s r.name) (q : Result Unit Answer) where
+      pub late-add : (label : Bytes) → r.kind ≡ add_kind → label ≡ part_of s r.label → q ≡ passed (first_of (taken_late st size given (add label r.dot (dots_of context))))
+          → q ≡ passed (first_of (taken_late st size (message_name s) (message_of s)))
       late-add label k e h = h ∙ rw (given_is, f.name, add_is label k e)
 
-      pub late-remove : (r.kind ≡ add_kind → ⊥) → q ≡ first_of (taken_late st 0 given (remove (dots_of context))) → q ≡ first_of (taken_late st size (message_name s) (message_of s))
+      pub late-remove : (r.kind ≡ add_kind → ⊥) → q ≡ passed (first_of (taken_late st 0 given (remove (dots_of context)))) → q ≡ passed (first_of (taken_late st size (message_name s) (message_of s)))
       late-remove k h = h ∙ rw (given_is, f.name, remove-is k)
 
 -- ---- the table
@@ -159,16 +167,57 @@ module _ (st : State) (store message : Bytes) (read : MessageRead) (read_is : re
 -- the answer, where the call is told whether refusal 1 holds
 module _ (st : State) (message : Bytes) (read : MessageRead) (read_is : read ≡ read_of message) (lent : Lent) (r : Answer) (k : ℕ)
     (first-is : r ≡ cond lent.damage Damaged read.answer) (numbered : k ≡ number_of r) where
-  pub answer-refused : (k ≡ 0 → ⊥) → TakeAnswers st message lent r
-  answer-refused t store out e f d = take-refused st store message read read_is lent.damage r k d first-is numbered t
+  answer-refused : (k ≡ 0 → ⊥) → TakeAnswers st message lent (Err r)
+  answer-refused t store out e f d = passed-refused _ _ (take-refused st store message read read_is lent.damage r k d first-is numbered t) (λ z. t (numbered ∙ z))
 
-  pub may_judge : (told : Told st lent) → k ≡ 0 → MayJudge st message read
+  may_judge : (told : Told st lent) → k ≡ 0 → MayJudge st message read
   may_judge told t =
       let kept = take-kept st told.store message read read_is lent.damage r k told.tells first-is numbered t in
       record { state-ok = kept.0; small = kept.1; found = kept.2; sized = told.sized }
 
-  pub answer-passed : Sized st → k ≡ 0 → (q : Answer) → q ≡ first_of (taken_of st lent.store message) → TakeAnswers st message lent q
-  answer-passed size t q h store out e f d = take-passed st store message read read_is lent.damage r k d first-is numbered t size q (rw e h)
+  answer-passed : Sized st → k ≡ 0 → (q : Result Unit Answer) → q ≡ passed (first_of (taken_of st lent.store message)) → TakeAnswers st message lent q
+  answer-passed size t q h store out e f d =
+      let same : q ≡ passed (first_of (taken_of st (length store) message)) = rw e h in
+      same ∙ ap passed (take-passed st store message read read_is lent.damage r k d first-is numbered t size _ refl)
+
+-- what the earlier refusals tell, as the code passes them up
+module _ (st : State) (message : Bytes) (read : MessageRead) (read_is : read ≡ read_of message) (lent : Lent) (told : Told st lent) (q : Result Unit Answer) (tested : q ≡ passed (cond lent.damage Damaged read.answer)) where
+  pub early-refused : (a : Answer) → q ≡ Err a → TakeAnswers st message lent (Err a)
+  early-refused a e = let r = refused-is a (cond lent.damage Damaged read.answer) (sym e ∙ tested) in answer-refused st message read read_is lent a (number_of a) r.0 refl r.1
+
+  module _ (u : Unit {0}) (e : q ≡ Ok u) where
+    none-early-holds : number_of (cond lent.damage Damaged read.answer) ≡ 0
+    none-early-holds = passed-is _ u (sym e ∙ tested)
+
+    pub early-judge : MayJudge st message read
+    early-judge = may_judge st message read read_is lent _ _ refl refl told none-early-holds
+
+    pub early-passed : (r : Result Unit Answer) → r ≡ passed (first_of (taken_of st lent.store message)) → TakeAnswers st message lent r
+    early-passed = answer-passed st message read read_is lent _ _ refl refl told.sized none-early-holds
+
+-- a message that was read, and the tests of it in turn
+module _ (st : State) (message : Bytes) (read : Result MessageFields Answer) (read_is : read_as read ≡ read_of message) (lent : Lent) (told : Told st lent) where
+  pub damage-refused : lent.damage ≡ true → TakesIn st message lent read (Err Damaged)
+  damage-refused d = (early-refused st message (read_as read) read_is lent told (Err Damaged) (rw d refl) Damaged refl, tt)
+
+  module _ (d : lent.damage ≡ false) where
+    pub read-refused : (a : Answer) → read ≡ Err a → TakesIn st message lent read (Err a)
+    read-refused a e =
+        let is : no_message a ≡ read_of message = rw e at read_is in
+        (early-refused st message (read_as read) read_is lent told (Err a) (rw (d, e) (passed-refused a a refl (refusal_read message a is))) a refl, tt)
+
+    module _ (f : MessageFields) (e : read ≡ Ok f) where
+      tested : Ok (tt {0}) ≡ passed (cond lent.damage Damaged (read_as read).answer)
+      tested = rw (d, e) refl
+
+      pub late-judge : MayJudge st message (read_as (Ok f))
+      late-judge = let judges = early-judge st message (read_as read) read_is lent told (Ok tt) tested tt refl in rw e at judges
+
+      pub late-refused : (a : Answer) → Err a ≡ passed (first_of (taken_of st lent.store message)) → TakesIn st message lent read (Err a)
+      late-refused a h = (early-passed st message (read_as read) read_is lent told (Ok tt) tested tt refl (Err a) h, tt)
+
+      pub late-passed : (u : Unit {0}) → Ok u ≡ passed (first_of (taken_of st lent.store message)) → TakesIn st message lent read (Ok f)
+      late-passed u h = (early-passed st message (read_as read) read_is lent told (Ok tt) tested tt refl (Ok tt) h, e)
 
 -- ---- what is left
 
@@ -271,12 +320,25 @@ module _ (st : State) (store s : Bytes) (r : MessageRead) (m : MayTakeIn st stor
 -- ---- the tests, as the code makes them
 
 module _ (st : State) (given context : Bytes) (base : ℕ) (base-is : base ≡ (row_at st.clock.words st.actor.number).base) where
-  pub add-judged : (size : ℕ) (label : Bytes) (d : Dot) (other dot-ahead ahead : Bool) (late r : Answer) → other ≡ not (compare_is_eq (compare_bytes given (name_of st)))
-      → dot-ahead ≡ ahead_of st.actor base d → ahead ≡ any (ahead_of st.actor base) (dots_of context) → late ≡ first_of (add_late st size label d (dots_of context) false)
-      → r ≡ taken_answer other (dot-ahead || ahead) late → r ≡ first_of (taken_late st size given (add label d (dots_of context)))
-  unfolding any
-  add-judged size label d other dot-ahead ahead late r e f g h i = i ∙ rw (e, f, g, h, base-is)
+  module _ (other ahead : Bool) (e : other ≡ not (compare_is_eq (compare_bytes given (name_of st)))) (g : ahead ≡ any (ahead_of st.actor base) (dots_of context)) where
+    module _ (size : ℕ) (label : Bytes) (d : Dot) (dot-ahead : Bool) (f : dot-ahead ≡ ahead_of st.actor base d) where
+      add-rows : passed (first_of (taken_early other (dot-ahead || ahead) ++ add_late st size label d (dots_of context) false)) ≡ passed (first_of (taken_late st size given (add label d (dots_of context))))
+      unfolding any
+      add-rows = rw (e, f, g, base-is)
 
-  pub remove-judged : (other ahead : Bool) (late r : Answer) → other ≡ not (compare_is_eq (compare_bytes given (name_of st))) → ahead ≡ any (ahead_of st.actor base) (dots_of context)
-      → late ≡ first_of (remove_late st (dots_of context) false) → r ≡ taken_answer other ahead late → r ≡ first_of (taken_late st 0 given (remove (dots_of context)))
-  remove-judged other ahead late r e g h i = i ∙ rw (e, g, h, base-is)
+      pub add-stopped : (q : Result Unit Answer) → q ≡ passed (first_of (taken_early other (dot-ahead || ahead))) → (a : Answer) → q ≡ Err a → Err a ≡ passed (first_of (taken_late st size given (add label d (dots_of context))))
+      add-stopped q h a i = rows-stop (taken_early other (dot-ahead || ahead)) (add_late st size label d (dots_of context) false) a (sym i ∙ h) ∙ add-rows
+
+      pub add-judged : (q : Result Unit Answer) → q ≡ passed (first_of (taken_early other (dot-ahead || ahead))) → (u : Unit {0}) → q ≡ Ok u → (r : Result Unit Answer)
+          → r ≡ passed (first_of (add_late st size label d (dots_of context) false)) → r ≡ passed (first_of (taken_late st size given (add label d (dots_of context))))
+      add-judged q h u i r k = rows-pass (taken_early other (dot-ahead || ahead)) (add_late st size label d (dots_of context) false) u r (search rules) (sym i ∙ h) k ∙ add-rows
+
+    remove-rows : passed (first_of (taken_early other ahead ++ remove_late st (dots_of context) false)) ≡ passed (first_of (taken_late st 0 given (remove (dots_of context))))
+    remove-rows = rw (e, g, base-is)
+
+    pub remove-stopped : (q : Result Unit Answer) → q ≡ passed (first_of (taken_early other ahead)) → (a : Answer) → q ≡ Err a → Err a ≡ passed (first_of (taken_late st 0 given (remove (dots_of context))))
+    remove-stopped q h a i = rows-stop (taken_early other ahead) (remove_late st (dots_of context) false) a (sym i ∙ h) ∙ remove-rows
+
+    pub remove-judged : (q : Result Unit Answer) → q ≡ passed (first_of (taken_early other ahead)) → (u : Unit {0}) → q ≡ Ok u → (r : Result Unit Answer)
+        → r ≡ passed (first_of (remove_late st (dots_of context) false)) → r ≡ passed (first_of (taken_late st 0 given (remove (dots_of context))))
+    remove-judged q h u i r k = rows-pass (taken_early other ahead) (remove_late st (dots_of context) false) u r (search rules) (sym i ∙ h) k ∙ remove-rows

@@ -1,5 +1,5 @@
 -- What the code of taking in tests and counts on, beside the steps.
-use Rattle.std.specs.Prelude.{ℕ, ◌≤◌, Bool, true, false, cond, not, ◌∷◌, ◌≡◌, length}
+use Rattle.std.specs.Prelude.{ℕ, ◌≤◌, Bool, true, false, not, [], ◌∷◌, ◌≡◌, length, Result, Ok, Err, MatchResult}
 use Rattle.std.proofs.Math.Dec.{compare_is_eq}
 use Rattle.wire.specs.Lists.{any}
 use Rattle.wire.specs.Bytes.{Bytes, compare_bytes}
@@ -10,8 +10,8 @@ use Rattle.dots.specs.Names.{Name}
 use Rattle.dots.specs.declared.Dot.{Dot}
 use Rattle.clock.specs.Clock.{row_at}
 use Rattle.dots.specs.Message.{Message, add, remove}
-use Rattle.messages.specs.declared.MessageRead.{MessageRead}
-use Rattle.messages.specs.Read.{name_of as message_name, message_of}
+use Rattle.messages.specs.declared.MessageFields.{MessageFields}
+use Rattle.messages.specs.Read.{MessageRead, name_of as message_name, message_of}
 use Rattle.messages.proofs.Accepted.{Found}
 use Rattle.calls.specs.declared.State.{State}
 use Rattle.calls.specs.declared.Outcome.{Outcome}
@@ -33,8 +33,9 @@ taken_late st size name (remove context) =
     (not (compare_is_eq (compare_bytes name (name_of st))), OtherSet) ∷ (any (ahead_of st.actor (row_at st.clock.words st.actor.number).base) context, OwnAhead)
     ∷ remove_late st context false
 
-abbrev pub taken_answer : Bool → Bool → Answer → Answer
-taken_answer other ahead late = cond other OtherSet (cond ahead OwnAhead late)
+-- the first two of them
+abbrev pub taken_early : Bool → Bool → Refusals
+taken_early other ahead = (other, OtherSet) ∷ (ahead, OwnAhead) ∷ []
 
 -- those of a message's bytes
 abbrev pub taken_of : State → ℕ → Bytes → Refusals
@@ -47,9 +48,18 @@ pub record MayJudge (st : State) (message : Bytes) (read : MessageRead) : Type 0
   pub found : Found message read
   pub sized : Sized st
 
--- the answer of taking in
-abbrev pub TakeAnswers : State → Bytes → Lent → Answer → Type 0
+-- the refusals of taking in
+abbrev pub TakeAnswers : State → Bytes → Lent → Result Unit Answer → Type 0
 TakeAnswers st message lent r = Answers st lent (λ store out. take_in_refusals st store message) r
+
+-- a result without its value
+abbrev pub without_value : {A : Type 0} → Result A Answer → Result Unit Answer
+without_value (Ok _) = Ok tt
+without_value (Err a) = Err a
+
+-- the refusals of taking in a message that was read; what is not refused is what was read
+abbrev pub TakesIn : State → Bytes → Lent → Result MessageFields Answer → Result MessageFields Answer → Type 0
+TakesIn st message lent read r = TakeAnswers st message lent (without_value r) × MatchResult r (λ fields. read ≡ Ok fields) (λ _. Unit {0})
 
 -- what taking in counts on where it is not refused
 pub record MayTakeIn (st : State) (store message : Bytes) (read : MessageRead) : Type 0 where

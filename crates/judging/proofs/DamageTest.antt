@@ -2,7 +2,7 @@
 use mathlib.Core.Path.{◌≡◌, refl, sym, ap, ◌∙◌}
 use mathlib.Core.Bool.{Bool, true, false, not, ◌&&◌, ◌||◌}
 use Prim.Native.Nat.{ℕ, ◌≤◌}
-use borrow.Author.Tests.{leb-true, not-false}
+use borrow.Author.Tests.{leb-true}
 use Rattle.wire.specs.Bytes.{Bytes}
 use Rattle.wire.proofs.Tests.{both}
 use Rattle.dots.specs.Names.{name_ok, name_most}
@@ -10,8 +10,7 @@ use Rattle.dots.specs.Dots.{actor_ok}
 use Rattle.clock.specs.Row.{window_width}
 use Rattle.clock.specs.Clock.{clock_ok}
 use Rattle.store.specs.Valid.{store_ok}
-use Rattle.store.specs.declared.Judgement.{Judgement}
-use Rattle.store.specs.Place.{is_sound, front_of}
+use Rattle.std.proofs.Common.{Option, is_some, unwrap_or}
 use Rattle.calls.specs.declared.State.{State}
 use Rattle.calls.specs.State.{name_of}
 use Rattle.calls.specs.Damage.{state_name_ok, tombstone_ok, damaged}
@@ -29,7 +28,7 @@ damaged-is st store = by (actor_ok st.actor.number) (state_name_ok st) (clock_ok
     by false n c t s = refl
 
 -- the state's own rules broken
-pub state-damaged : (st : State) (store : Bytes) (ok : Bool) → ok ≡ state_ok st → not ok ≡ true → true ≡ damaged st store
+pub state-damaged : (st : State) (store : Bytes) (ok : Bool) → ok ≡ state_ok st → ok ≡ false → true ≡ damaged st store
 state-damaged st store ok e t = sym (damaged-is st store ∙ rw (← e, t))
 
 pub not_not : (b : Bool) → not (not b) ≡ b
@@ -37,20 +36,20 @@ not_not true = refl
 not_not false = refl
 
 -- they hold, and the store decides
-pub store-decides : (st : State) (store : Bytes) (ok : Bool) → ok ≡ state_ok st → not ok ≡ false → store_ok (name_of st) st.clock.words store st.used ≡ not (damaged st store)
+pub store-decides : (st : State) (store : Bytes) (ok : Bool) → ok ≡ state_ok st → ok ≡ true → store_ok (name_of st) st.clock.words store st.used ≡ not (damaged st store)
 store-decides st store ok e f =
     let is : damaged st store ≡ not (store_ok (name_of st) st.clock.words store st.used) = damaged-is st store ∙ rw (← e, f) in
     sym (ap not is ∙ not_not (store_ok (name_of st) st.clock.words store st.used))
 
 -- the name of a state that keeps its rules
-pub name-kept : (st : State) (ok : Bool) → ok ≡ state_ok st → not ok ≡ false → (st.name.len ≤ name_most) × (name_ok (name_of st) ≡ true)
+pub name-kept : (st : State) (ok : Bool) → ok ≡ state_ok st → ok ≡ true → (st.name.len ≤ name_most) × (name_ok (name_of st) ≡ true)
 unfolding state_ok state_name_ok
-name-kept st ok e f = let kept : state_ok st ≡ true = sym e ∙ not-false ok f in (leb-true st.name.len name_most (search both), search both)
+name-kept st ok e f = let kept : state_ok st ≡ true = sym e ∙ f in (leb-true st.name.len name_most (search both), search both)
 
 -- what the pass over state and store tells
-module _ (st : State) (store label : Bytes) (r : Judgement) (j : Judges st store label r) where
-  pub tells_damage : (b : Bool) → b ≡ not (is_sound r) → b ≡ damaged st store
-  tells_damage b e = e ∙ ap not j.found ∙ not_not (damaged st store)
+module _ (st : State) (store label : Bytes) (r : Option ℕ) (j : Judges st store label r) where
+  pub tells_damage : (b : Bool) → is_some r ≡ not b → b ≡ damaged st store
+  tells_damage b e = sym (not_not b) ∙ ap not (sym e ∙ j.found) ∙ not_not (damaged st store)
 
-  pub tells-place : damaged st store ≡ false → (low : ℕ) → low ≡ front_of r → LowPart st store label low
+  pub tells-place : damaged st store ≡ false → (low : ℕ) → low ≡ unwrap_or r 0 → LowPart st store label low
   tells-place h low e = rw e (j.passed (ap not h))

@@ -1,4 +1,3 @@
--- Parts: parts of buffers. DamageTest: refusal 1, and what an undamaged state keeps. Heads: a state and its head with its arrays.
+-- Parts: parts of buffers. DamageTest: refusal 1, and what an undamaged state keeps.
 pub mod Parts
 pub mod DamageTest
-pub mod Heads

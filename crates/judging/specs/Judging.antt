@@ -1,5 +1,5 @@
 -- What judging tells: whether a state and its store are undamaged, and then how many used bytes come before all keys of a label.
-use Rattle.std.specs.Prelude.{ℕ, ◌*◌, Bool, not, ◌&&◌, List, ◌++◌, leb, length, take}
+use Rattle.std.specs.Prelude.{ℕ, ◌*◌, Bool, not, ◌&&◌, Option, List, ◌++◌, leb, length, take}
 use Rattle.wire.specs.Lists.{all}
 use Rattle.wire.specs.Bytes.{Bytes}
 use Rattle.dots.specs.Names.{Label, name_most, name_ok}
@@ -8,7 +8,6 @@ use Rattle.dots.specs.Wire.{dots_of, dot_size}
 use Rattle.clock.specs.Row.{window_width}
 use Rattle.clock.specs.Clock.{sees, clock_ok}
 use Rattle.keys.specs.Entry.{prefix}
-use Rattle.store.specs.declared.Judgement.{Judgement}
 use Rattle.store.specs.Place.{LabelPassed, Judged, StoreJudged}
 use Rattle.calls.specs.declared.SetName.{SetName}
 use Rattle.calls.specs.declared.State.{State}
@@ -34,9 +33,9 @@ abbrev pub LowPart : State → Bytes → Label → ℕ → Type 0
 LowPart st store label low = LabelPassed (name_of st) label (take st.used store) low
 
 -- what the pass over a store tells
-abbrev pub JudgesStore : SetName → List ℕ → Bytes → ℕ → Label → Judgement → Type 0
+abbrev pub JudgesStore : SetName → List ℕ → Bytes → ℕ → Label → Option ℕ → Type 0
 JudgesStore name words store used label r = StoreJudged (take name.len name.bytes) words store used label r
 
 -- what judging a state and its store tells
-abbrev pub Judges : State → Bytes → Label → Judgement → Type 0
+abbrev pub Judges : State → Bytes → Label → Option ℕ → Type 0
 Judges st store label r = Judged (not (damaged st store)) (length (name_of st)) (prefix (name_of st) ++ label) (take st.used store) r

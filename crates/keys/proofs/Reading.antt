@@ -11,9 +11,8 @@ use Rattle.dots.specs.Answer.{number_of}
 use Rattle.dots.specs.declared.Answer.TheVariants.{Done}
 use Rattle.keys.specs.declared.KeyKind.{KeyKind}
 use Rattle.keys.specs.declared.KeyKind.TheVariants.{ClockKey, TombstoneKey, LabelKey, EndKey}
-use Rattle.keys.specs.declared.KeyRead.{KeyRead}
 use Rattle.keys.specs.Key.{Key, type_byte, has_label, key_bytes, prefix_fixed}
-use Rattle.keys.specs.Read.{name_length, label_length, fields_as, is_key, found_key, no_key, read_key}
+use Rattle.keys.specs.Read.{KeyRead, name_length, label_length, fields_as, is_key, found_key, no_key, read_key}
 use Rattle.keys.specs.Tests.{kind_of}
 use Rattle.keys.proofs.Valid.{ValidKey, label_kept}
 use Rattle.keys.proofs.RoundTrip.{laid, laid-read, kind-type, fields_written, is_key_written, is_key_read}
@@ -53,6 +52,13 @@ module _ (s : Bytes) where
       by-test : (is_key t s ≡ true) ⊎ (is_key t s ≡ false) → read_key s ≡ cond (is_key t s) (found_key t s) no_key
       by-test (inl h) = rw h (read_as t h)
       by-test (inr f) = rw f (read_none (λ u. untrue (is_key u s) (λ k. false≢true (sym f ∙ subst (λ (v : KeyKind). is_key v s ≡ true) (sym (e ∙ kind_of_lem u k)) k))))
+
+  -- a byte that is no type byte begins no key's label
+  pub read_unknown : (b : ℕ) → b ≡ byte_at s (name_length s + 3) → (type_byte (kind_of b) ≡ b → ⊥) → read_key s ≡ no_key
+  read_unknown b e none =
+      let t : KeyKind = kind_of b in
+      let no : is_key t s ≡ false = untrue (is_key t s) (λ h. none (sym (type_of t h) ∙ sym e)) in
+      read_by_type t (ap kind_of e) ∙ rw no
 
 -- ---- what is read says what was written
 

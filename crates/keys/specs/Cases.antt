@@ -8,9 +8,8 @@ use Rattle.dots.specs.declared.Answer.TheVariants.{Done, BadName}
 use Rattle.dots.specs.Dots.{actor_of, dot_of}
 use Rattle.dots.specs.Entries.{Entry, entry}
 use Rattle.keys.specs.declared.KeyKind.TheVariants.{LabelKey}
-use Rattle.keys.specs.declared.KeyRead.{KeyRead}
 use Rattle.keys.specs.Key.{Key, key_of}
-use Rattle.keys.specs.Read.{read_key}
+use Rattle.keys.specs.Read.{KeyRead, read_key}
 use Rattle.keys.specs.Write.{write_answer}
 use Rattle.keys.specs.Entry.{entry_key, key_entry}
 

@@ -1,11 +1,13 @@
 -- Reading a key: "exactly these forms with nothing left over; any other bytes answer 4".
-use Rattle.std.specs.Prelude.{ℕ, ◌+◌, Bool, cond, ◌&&◌, drop}
+use Rattle.std.specs.Prelude.{ℕ, ◌+◌, Bool, cond, ◌&&◌, drop, Result, Ok, Err}
 use Rattle.std.proofs.Math.Dec.{compare_is_eq}
+use Rattle.wire.specs.declared.Span.{Span}
 use Rattle.wire.specs.Bytes.{Bytes, byte_at, part_at, span, number_at, zero_at, compare_bytes}
+use Rattle.dots.specs.declared.Answer.{Answer}
 use Rattle.dots.specs.declared.Answer.TheVariants.{Done, BadShape}
 use Rattle.keys.specs.declared.KeyKind.{KeyKind}
 use Rattle.keys.specs.declared.KeyKind.TheVariants.{ClockKey, TombstoneKey, LabelKey, EndKey}
-use Rattle.keys.specs.declared.KeyRead.{KeyRead}
+use Rattle.keys.specs.declared.KeyFields.{KeyFields}
 use Rattle.keys.specs.Key.{Key, key_of, type_byte, has_label, names_ok, key_counter_ok, key_bytes, prefix_fixed}
 
 -- the name stands from byte 2 to the first 00 after it, the label from the byte after the type byte to the first 00 after that
@@ -26,6 +28,15 @@ fields_as kind s =
 unfoldable pub is_key : KeyKind → Bytes → Bool
 is_key kind s = let k = fields_as kind s in names_ok k && (key_counter_ok k && compare_is_eq (compare_bytes (key_bytes k) s))
 
+-- a key as it was read: its type byte, where name and label stand, actor and counter
+pub record KeyRead : Type 0 where
+  pub answer : Answer
+  pub kind : ℕ
+  pub name : Span
+  pub label : Span
+  pub actor : ℕ
+  pub counter : ℕ
+
 abbrev pub found_key : KeyKind → Bytes → KeyRead
 found_key kind s = record {
   answer = Done;
@@ -39,6 +50,11 @@ found_key kind s = record {
 -- "refused: all fields 0"
 abbrev pub no_key : KeyRead
 no_key = record { answer = BadShape; kind = 0; name = span 0 0; label = span 0 0; actor = 0; counter = 0 }
+
+-- what reading gave, as the answer and the fields
+abbrev pub read_as : Result KeyFields Answer → KeyRead
+read_as (Ok k) = record { answer = Done; kind = type_byte k.kind; name = k.name; label = k.label; actor = k.actor; counter = k.counter }
+read_as (Err a) = record { answer = a; kind = 0; name = span 0 0; label = span 0 0; actor = 0; counter = 0 }
 
 abbrev pub or_key : Bytes → KeyKind → KeyRead → KeyRead
 or_key s kind other = cond (is_key kind s) (found_key kind s) other

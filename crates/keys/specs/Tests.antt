@@ -1,7 +1,9 @@
 -- What a reader tests, byte by byte. That these tests are `is_key` and `key_entry` is proved in proofs/KeyTests and proofs/EntryTests.
-use Rattle.std.specs.Prelude.{ℕ, ◌+◌, Bool, cond, ◌&&◌, leb, eqb, length, take, drop}
+use Rattle.std.specs.Prelude.{ℕ, ◌+◌, ◌≡◌, Bool, cond, ◌&&◌, leb, eqb, length, take, drop, Result, MatchResult}
 use Rattle.std.proofs.Math.Option.{Option, none, some}
 use Rattle.wire.specs.Bytes.{Bytes, between, byte_at, number_at, zero_at, starts_with}
+use Rattle.dots.specs.declared.Answer.{Answer}
+use Rattle.dots.specs.declared.Answer.TheVariants.{BadShape}
 use Rattle.dots.specs.Names.{Name, name_most, label_most}
 use Rattle.dots.specs.Dots.{actor_of, dot_of, actor_ok}
 use Rattle.dots.specs.Entries.{Entry, entry}
@@ -14,6 +16,10 @@ use Rattle.keys.specs.Entry.{prefix}
 -- the type of a type byte; whether it is one at all is tested apart
 abbrev pub kind_of : ℕ → KeyKind
 kind_of b = cond (eqb b 0x63) ClockKey (cond (eqb b 0x64) TombstoneKey (cond (eqb b 0x65) LabelKey EndKey))
+
+-- the type of a type byte, and a refusal of a byte that is none
+abbrev pub Typed : ℕ → Result KeyKind Answer → Type 0
+Typed b r = MatchResult r (λ kind. (kind ≡ kind_of b) × (type_byte kind ≡ b)) (λ answer. (answer ≡ BadShape) × (type_byte (kind_of b) ≡ b → ⊥))
 
 -- magic byte, version byte, a name of 1 to 16 bytes, and the type byte
 unfoldable pub front_ok : KeyKind → Bytes → Bool

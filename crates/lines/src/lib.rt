@@ -2,7 +2,7 @@
 
 #![tactic(auto)]
 
-pub mod fields;
+mod fields;
 pub mod limits;
 pub mod parse;
 pub mod parts;

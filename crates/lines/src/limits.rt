@@ -3,8 +3,6 @@
 // How many controllers there are.
 pub const CONTROLLERS: usize = 16;
 
-pub const CONTROLLER_LAST: usize = CONTROLLERS - 1;
-
 // The longest line.
 pub const LINE_MAX: usize = 262144;
 
@@ -14,14 +12,5 @@ pub const OUT_MAX: usize = 1048576;
 // The longest store that is lent.
 pub const BUFFER_MAX: usize = 70000;
 
-// The most bytes that the fields of a line stand for: a dot of three bytes and the mark after it make nine.
-pub const ARGUMENTS_MAX: usize = LINE_MAX / 4 * 9;
-
 // What every byte of an output is before a call.
 pub const OUT_FILL: u8 = 0xEE;
-
-// How many rows a clock has.
-pub const ROWS: usize = dots::ACTOR_MOST as usize;
-
-// The last dot that a tombstone has room for.
-pub const SLOT_LAST: usize = dots::TOMBSTONE_MOST - 1;

@@ -1,236 +1,395 @@
 // From a line to the controller it speaks to and the command it gives.
-use crate::fields::Read;
-use crate::limits::{ARGUMENTS_MAX, CONTROLLER_LAST, LINE_MAX};
-use crate::{fields, parts, why};
+ghost use Rattle.std.specs.Prelude.{◌<◌};
 
-// The commands: a letter for each, which the table of `read_command` has beside its words. The capital letters are the pokes.
-pub const SETUP: u8 = b's';
+use crate::fields::{
+    buffer, byte, context, controller, hex, key_type, name, number, output, row, slot, text,
+};
+use crate::limits::LINE_MAX;
+use crate::parts;
+use crate::why::{Refusal, Why};
+use dots::{Actor, Counter, Dot};
+use std::alloc::Global;
 
-pub const ADD: u8 = b'a';
-
-pub const REMOVE: u8 = b'r';
-
-pub const TAKE: u8 = b't';
-
-pub const COMPACT: u8 = b'c';
-
-pub const LIST: u8 = b'l';
-
-pub const PAGE: u8 = b'p';
-
-pub const MERGE: u8 = b'g';
-
-pub const LOOKUP: u8 = b'u';
-
-pub const IMAGE: u8 = b'i';
-
-pub const LOAD: u8 = b'd';
-
-pub const KEY: u8 = b'k';
-
-pub const READ_KEY: u8 = b'y';
-
-pub const READ_MESSAGE: u8 = b'm';
-
-pub const STATE: u8 = b'e';
-
-pub const STORE: u8 = b'o';
-
-pub const BUFFER: u8 = b'b';
-
-pub const USED: u8 = b'U';
-
-pub const ACTOR: u8 = b'A';
-
-pub const NAME: u8 = b'N';
-
-pub const NAME_LENGTH: u8 = b'L';
-
-pub const BASE: u8 = b'B';
-
-pub const WINDOW: u8 = b'W';
-
-pub const DOT: u8 = b'D';
-
-pub const COUNT: u8 = b'C';
-
-pub const BYTE: u8 = b'Y';
-
-// A line: why it breaks the form, or 0, and in which field, or 0 for the whole line; its controller and its command; how many bytes of the
-// arguments its fields have. Of the first, the second and the last field the number, or the place in the arguments after its bytes; where a
-// command has an output, the last is its length.
+// The place of a controller among all.
 #[derive(Clone, Copy)]
-pub struct Line {
-    pub why: u8,
-    pub field: usize,
-    pub controller: usize,
-    pub command: u8,
-    pub end: usize,
-    pub first: usize,
-    pub second: usize,
-    pub last: usize,
+pub struct Place {
+    pub index: usize,
+    pub ghost in_range: { index < 16 },
 }
 
-fn blank(why: u8) -> Line {
-    Line {
-        why: why,
-        field: 0,
-        controller: 0,
-        command: 0,
-        end: 0,
-        first: 0,
-        second: 0,
-        last: 0,
-    }
+// What a poke sets: a field of a state, or a byte of a store.
+#[derive(Drop)]
+pub enum Poke {
+    Used(u64),
+    Actor(u8),
+    Name(Vec<u8>),
+    NameLength(u64),
+    Base { row: u8, base: u64 },
+    Window { row: u8, window: u64 },
+    Dot { slot: u8, dot: Dot },
+    Count(u64),
+    Byte { offset: usize, byte: u8 },
+}
+
+// A command that changes a controller. Where a command has an output, `out` is its length.
+#[derive(Drop)]
+pub enum Change {
+    SetUp {
+        actor: u8,
+        name: Vec<u8>,
+    },
+    Add {
+        label: Vec<u8>,
+        context: Vec<u8>,
+        out: usize,
+    },
+    Remove {
+        context: Vec<u8>,
+        out: usize,
+    },
+    Take {
+        message: Vec<u8>,
+    },
+    Compact,
+    Load {
+        actor: u8,
+        image: Vec<u8>,
+    },
+    Buffer {
+        length: usize,
+        fill: u8,
+    },
+    Poke(Poke),
+}
+
+// A command that reads a controller.
+#[derive(Drop)]
+pub enum Look {
+    List { out: usize },
+    Page { start: Vec<u8>, out: usize },
+    LookUp { label: Vec<u8> },
+    Image { out: usize },
+    State,
+    Store,
+}
+
+// A command that needs no controller.
+#[derive(Drop)]
+pub enum Format {
+    Key {
+        kind: u8,
+        name: Vec<u8>,
+        label: Vec<u8>,
+        dot: Dot,
+        out: usize,
+    },
+    ReadKey {
+        key: Vec<u8>,
+    },
+    ReadMessage {
+        message: Vec<u8>,
+    },
+}
+
+#[derive(Drop)]
+pub enum Command {
+    Change(Change),
+    Look(Look),
+    Merge {
+        first: Place,
+        second: Place,
+        out: usize,
+    },
+    Format(Format),
+}
+
+// A line: its controller, the command's word, and the command.
+#[derive(Drop)]
+pub struct Line<'a> {
+    pub controller: Place,
+    pub word: &'a [u8],
+    pub command: Command,
 }
 
 // ---- fields
 
-// Reads a field of a kind; c is a controller.
-fn read_kind(kind: u8, field: &[u8], args: &mut [u8; ARGUMENTS_MAX], end: usize) -> Read {
-    if kind == b'c' {
-        return named(field);
-    }
-    fields::read_field(kind, field, args, end)
+// The fields of a command that are left, and the number of the last one that was read.
+#[derive(Drop)]
+struct Fields<'a> {
+    alloc: Global,
+    rest: Option<&'a [u8]>,
+    number: usize,
 }
 
-// Reads field i of a command, of this kind. Field 0 is the command's word.
-fn read_field(line: Line, i: usize, kind: u8, text: &[u8], args: &mut [u8; ARGUMENTS_MAX]) -> Line {
-    let mut next = line;
-    let field = parts::field(text, b' ', i);
-    if line.why != 0 {
-        return next;
+impl<'a> Fields<'a> {
+    fn next(&mut self) -> Option<&'a [u8]> {
+        self.number = self.number.saturating_add(1);
+        let text = self.rest?;
+        match parts::split_once(text, b' ') {
+            Some((field, rest)) => {
+                self.rest = Some(rest);
+                Some(field)
+            }
+            None => {
+                self.rest = None;
+                Some(text)
+            }
+        }
     }
-    next.field = i;
-    if field.len() == 0 {
-        next.why = why::MISSING;
-        return next;
-    }
-    let read = read_kind(kind, field, args, line.end);
-    next.why = read.why;
-    next.last = read.value;
-    if i == 1 {
-        next.first = read.value;
-    }
-    if i == 2 {
-        next.second = read.value;
-    }
-    if kind < b'a' {
-        next.end = read.value;
-    }
-    next
-}
 
-// Reads the fields, and no more. Field i has kind i; that of the command's word is the command.
-fn read_fields(kinds: &[u8], text: &[u8], args: &mut [u8; ARGUMENTS_MAX]) -> Line {
-    let mut line = blank(0);
-    let mut i = 1;
-    while i < kinds.len() {
-        line = read_field(line, i, kinds[i], text, args);
-        i += 1;
+    // The refusal of the last field.
+    fn refusal(&self, why: Why) -> Refusal {
+        Refusal {
+            why,
+            field: Some(self.number),
+        }
     }
-    if (line.why == 0) & (0 < parts::field(text, b' ', i).len()) {
-        line.why = why::TOO_MANY;
-        line.field = i;
+
+    // The next field as it stands.
+    fn word(&mut self) -> Result<&'a [u8], Refusal> {
+        match self.next() {
+            Some(field) => Ok(field),
+            None => Err(self.refusal(Why::Missing)),
+        }
     }
-    line
+
+    // What the next field stands for, which its kind reads.
+    fn read<T, F: FnOnce(&[u8]) -> Result<T, Why>>(&mut self, kind: F) -> Result<T, Refusal>
+        requires { F.IsAlwaysCallable kind }
+    {
+        let field = self.word()?;
+        kind(field).map_err(|why| self.refusal(why))
+    }
+
+    // The same, of a field that stands for bytes.
+    fn read_bytes<F: FnOnce(Global, &[u8]) -> Result<Vec<u8>, Why>>(
+        &mut self,
+        kind: F,
+    ) -> Result<Vec<u8>, Refusal>
+        requires { F.IsAlwaysCallable kind }
+    {
+        let alloc = self.alloc;
+        self.read(|field| kind(alloc, field))
+    }
+
+    // A dot in two fields.
+    fn dot(&mut self) -> Result<Dot, Refusal> {
+        let actor = self.read(byte)?;
+        let counter = self.read(number)?;
+        Ok(Dot {
+            actor: Actor { number: actor },
+            counter: Counter { number: counter },
+        })
+    }
+
+    // Refuses a field that is left.
+    fn end(&mut self) -> Result<(), Refusal> {
+        match self.next() {
+            Some(_) => Err(self.refusal(Why::TooMany)),
+            None => Ok(()),
+        }
+    }
 }
 
 // ---- commands
 
-// Whether a line's text begins with the words of an entry.
-fn begins(entry: &[u8], text: &[u8]) -> bool {
-    let words = parts::before(entry, b':');
-    let next = wire::byte_at(text, words.len());
-    search::starts_with(words, text) & ((text.len() == words.len()) | (next == b' '))
+fn read_poke(fields: &mut Fields) -> Result<Poke, Refusal> {
+    match fields.word()? {
+        b"used" => Ok(Poke::Used(fields.read(number)?)),
+        b"actor" => Ok(Poke::Actor(fields.read(byte)?)),
+        b"name" => Ok(Poke::Name(fields.read_bytes(name)?)),
+        b"namelen" => Ok(Poke::NameLength(fields.read(number)?)),
+        b"base" => Ok(Poke::Base {
+            row: fields.read(row)?,
+            base: fields.read(number)?,
+        }),
+        b"window" => Ok(Poke::Window {
+            row: fields.read(row)?,
+            window: fields.read(number)?,
+        }),
+        b"dot" => Ok(Poke::Dot {
+            slot: fields.read(slot)?,
+            dot: fields.dot()?,
+        }),
+        b"count" => Ok(Poke::Count(fields.read(number)?)),
+        b"byte" => Ok(Poke::Byte {
+            offset: fields.read(number)? as usize,
+            byte: fields.read(byte)?,
+        }),
+        _ => Err(fields.refusal(Why::NoPoke)),
+    }
 }
 
-// The place in a table of the first entry whose words the text begins with; the table's length if there is none.
-fn place_of(table: &[u8], text: &[u8]) -> usize {
-    for n in 0..table.len() {
-        if begins(parts::field(table, b';', n), text) {
-            return n;
-        }
+fn read_format(word: &[u8], fields: &mut Fields) -> Result<Format, Refusal> {
+    match word {
+        b"key" => Ok(Format::Key {
+            kind: fields.read(key_type)?,
+            name: fields.read_bytes(text)?,
+            label: fields.read_bytes(text)?,
+            dot: fields.dot()?,
+            out: fields.read(output)?,
+        }),
+        b"readkey" => Ok(Format::ReadKey {
+            key: fields.read_bytes(hex)?,
+        }),
+        b"readmessage" => Ok(Format::ReadMessage {
+            message: fields.read_bytes(hex)?,
+        }),
+        b"" => Err(Refusal::from(Why::NoWord)),
+        _ => Err(Refusal::from(Why::NoCommand)),
     }
-    table.len()
 }
 
-// Reads a command. The table has the words of each, its letter, and the kinds of the fields after its first word.
-fn read_command(text: &[u8], args: &mut [u8; ARGUMENTS_MAX]) -> Line {
-    let table =
-        b"setup:sbT;add:aTDo;remove:rDo;take:tH;compact:c;list:lo;page:pTo;merge:gcco;lookup:uT;image:io;load:dbH;key:kkTTBNo;readkey:yH;readmessage:mH;state:e;store:o;buffer:blb;poke used:UwN;poke actor:AwB;poke name:NwM;poke namelen:LwN;poke base:BwrN;poke window:WwrN;poke dot:DwsBN;poke count:CwN;poke byte:YwnB;poke:?p";
-    if text.len() == 0 {
-        return blank(why::NO_WORD);
+fn read_look(word: &[u8], fields: &mut Fields) -> Result<Option<Look>, Refusal> {
+    let look = match word {
+        b"list" => Look::List {
+            out: fields.read(output)?,
+        },
+        b"page" => Look::Page {
+            start: fields.read_bytes(text)?,
+            out: fields.read(output)?,
+        },
+        b"lookup" => Look::LookUp {
+            label: fields.read_bytes(text)?,
+        },
+        b"image" => Look::Image {
+            out: fields.read(output)?,
+        },
+        b"state" => Look::State,
+        b"store" => Look::Store,
+        _ => return Ok(None),
+    };
+    Ok(Some(look))
+}
+
+fn read_change(word: &[u8], fields: &mut Fields) -> Result<Option<Change>, Refusal> {
+    let change = match word {
+        b"setup" => Change::SetUp {
+            actor: fields.read(byte)?,
+            name: fields.read_bytes(text)?,
+        },
+        b"add" => Change::Add {
+            label: fields.read_bytes(text)?,
+            context: fields.read_bytes(context)?,
+            out: fields.read(output)?,
+        },
+        b"remove" => Change::Remove {
+            context: fields.read_bytes(context)?,
+            out: fields.read(output)?,
+        },
+        b"take" => Change::Take {
+            message: fields.read_bytes(hex)?,
+        },
+        b"compact" => Change::Compact,
+        b"load" => Change::Load {
+            actor: fields.read(byte)?,
+            image: fields.read_bytes(hex)?,
+        },
+        b"buffer" => Change::Buffer {
+            length: fields.read(buffer)?,
+            fill: fields.read(byte)?,
+        },
+        b"poke" => Change::Poke(read_poke(fields)?),
+        _ => return Ok(None),
+    };
+    Ok(Some(change))
+}
+
+fn read_merge(fields: &mut Fields) -> Result<Command, Refusal> {
+    Ok(Command::Merge {
+        first: fields.read(controller)?,
+        second: fields.read(controller)?,
+        out: fields.read(output)?,
+    })
+}
+
+// The command that a word and the fields after it give.
+fn read_command(word: &[u8], fields: &mut Fields) -> Result<Command, Refusal> {
+    if word == b"merge".as_slice() {
+        return read_merge(fields);
     }
-    let n = place_of(table, text);
-    let entry = parts::field(table, b';', n);
-    if entry.len() == 0 {
-        return blank(why::NO_COMMAND);
+    if let Some(change) = read_change(word, fields)? {
+        return Ok(Command::Change(change));
     }
-    let kinds = parts::after(entry, b':');
-    let mut line = read_fields(kinds, text, args);
-    line.command = wire::byte_at(kinds, 0);
-    line
+    if let Some(look) = read_look(word, fields)? {
+        return Ok(Command::Look(look));
+    }
+    Ok(Command::Format(read_format(word, fields)?))
 }
 
 // ---- lines
 
-// Whether a field is empty: two spaces, or one at either end.
-fn has_gap(text: &[u8]) -> bool {
-    let mut before = b' ';
-    for c in text {
-        if (before == b' ') & (*c == b' ') {
-            return true;
-        }
-        before = *c;
+// Refuses a text that has no line's form.
+fn check_form(text: &[u8]) -> Result<(), Why> {
+    if LINE_MAX < text.len() {
+        return Err(Why::LongLine);
     }
-    before == b' '
+    if text.contains(&b'\r') {
+        return Err(Why::CarriageReturn);
+    }
+    if text.split(|b| *b == b' ').any(|field| field.is_empty()) {
+        return Err(Why::Space);
+    }
+    Ok(())
 }
 
-// The controller that a line speaks to.
-fn controller(text: &[u8]) -> Read {
-    if wire::byte_at(text, 0) != b'@' {
-        return fields::good(0);
+// The controller that a line speaks to, and the line without it.
+fn split_controller(text: &[u8]) -> Result<(Place, &[u8]), Why> {
+    if !text.starts_with(b"@") {
+        return Ok((Place { index: 0 }, text));
     }
-    let number = fields::number(parts::after(parts::before(text, b' '), b'@'));
-    fields::within(number, 0, CONTROLLER_LAST, why::NO_CONTROLLER)
-}
-
-// The controller that a field names.
-fn named(field: &[u8]) -> Read {
-    if wire::byte_at(field, 0) != b'@' {
-        return Read {
-            why: why::NO_CONTROLLER,
-            value: 0,
-        };
-    }
-    controller(field)
-}
-
-// The line without its controller.
-pub fn body<'a>(text: &'a [u8]) -> &'a [u8] {
-    if wire::byte_at(text, 0) == b'@' {
-        return parts::after(text, b' ');
-    }
-    text
+    let (at, body) = parts::split_once(text, b' ').unwrap_or((text, b""));
+    Ok((controller(at)?, body))
 }
 
 // Reads a line.
-pub fn read_line(text: &[u8], args: &mut [u8; ARGUMENTS_MAX]) -> Line {
-    if LINE_MAX < text.len() {
-        return blank(why::LONG_LINE);
+pub fn read_line(alloc: Global, text: &[u8]) -> Result<Line<'_>, Refusal> {
+    check_form(text)?;
+    let (controller, body) = split_controller(text)?;
+    let mut fields = Fields {
+        alloc,
+        rest: Some(body),
+        number: 0,
+    };
+    let word = fields.next().unwrap_or_default();
+    fields.number = 0;
+    let command = read_command(word, &mut fields)?;
+    fields.end()?;
+    Ok(Line {
+        controller,
+        word,
+        command,
+    })
+}
+
+#[cfg(test)]
+mod tests {
+    use super::*;
+
+    #[test]
+    fn reads_a_line(rt: HostRuntime) -> Result<(), Refusal> {
+        let line = read_line(rt.alloc(), b"@3 take 0aff")?;
+        assert_eq!(rt; line.controller.index, 3);
+        assert_eq!(rt; line.word, b"take".as_slice());
+        match &line.command {
+            Command::Change(Change::Take { message }) => {
+                assert_eq!(rt; message.as_slice(), b"\x0a\xff".as_slice());
+            }
+            _ => panic!(rt; "another command"),
+        }
+        Ok(())
     }
-    if parts::find(text, b'\r') < text.len() {
-        return blank(why::CARRIAGE_RETURN);
+
+    #[test]
+    fn refuses_a_field(rt: HostRuntime) {
+        let why = Why::NoCounter;
+        let refusal = read_line(rt.alloc(), b"remove 1:2,3 100").err();
+        assert_eq!(rt;
+            refusal,
+            Some(Refusal {
+                why,
+                field: Some(1)
+            })
+        );
     }
-    if has_gap(text) {
-        return blank(why::SPACE);
-    }
-    let at = controller(text);
-    if at.why != 0 {
-        return blank(at.why);
-    }
-    let mut line = read_command(body(text), args);
-    line.controller = at.value;
-    line
 }

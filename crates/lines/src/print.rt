@@ -1,37 +1,24 @@
-// Printing fields on a writer, each after a space.
-ghost use Rattle.std.specs.Prelude.{◌+◌, ◌*◌, ◌<◌, ◌≤◌, length};
-ghost use Rattle.dots.specs.Wire.{dot_size};
+// How the fields of a line are printed.
+ghost use Rattle.std.specs.Prelude.{◌<◌};
 
 use crate::limits::OUT_FILL;
 use crate::parts;
-use std::io;
-use std::io::Write;
-
-pub fn text<W: Write>(writer: &mut W, s: &[u8]) -> io::Result<()> {
-    writer.write_all(s)
-}
-
-// A number in decimal digits after a mark.
-pub fn marked<W: Write>(writer: &mut W, mark: &[u8], n: u64) -> io::Result<()> {
-    text(writer, mark)?;
-    write!(writer, "{n}")
-}
-
-// NUM.
-pub fn number<W: Write>(writer: &mut W, n: u64) -> io::Result<()> {
-    marked(writer, b" ", n)
-}
+use std::fmt;
 
 // HEX.
-pub fn hex<W: Write>(writer: &mut W, s: &[u8]) -> io::Result<()> {
-    text(writer, b" ")?;
-    if s.len() == 0 {
-        text(writer, b"-")?;
+#[derive(Clone, Copy)]
+pub struct Hex<'a>(pub &'a [u8]);
+
+impl fmt::Display for Hex<'_> {
+    fn fmt<W: fmt::Write>(&self, f: &mut fmt::Formatter<W>) -> fmt::Result {
+        if self.0.is_empty() {
+            return f.write_str("-");
+        }
+        for byte in self.0 {
+            write!(f, "{byte:02x}")?;
+        }
+        Ok(())
     }
-    for byte in s {
-        write!(writer, "{byte:02x}")?;
-    }
-    Ok(())
 }
 
 // A hexadecimal digit.
@@ -41,65 +28,70 @@ fn digit(n: u8) -> u8
     if n < 10 { n + b'0' } else { n - 10 + b'A' }
 }
 
-// A byte of a TEXT, which may be its only one.
-fn character<W: Write>(writer: &mut W, b: u8, alone: bool) -> io::Result<()> {
-    if (b <= b' ') | (b'~' < b) | (b == b'%') | (alone & (b == b'-')) {
-        let three = [b'%', digit(b / 16), digit(b % 16)];
-        return text(writer, &three);
+// A byte of a TEXT that has a sign of its own.
+fn character<W: fmt::Write>(f: &mut fmt::Formatter<W>, b: u8) -> fmt::Result {
+    if b.is_ascii_graphic() && b != b'%' {
+        return f.write_char(b as char);
     }
-    let one = [b];
-    text(writer, &one)
+    f.write_char('%')?;
+    f.write_char(digit(b / 16) as char)?;
+    f.write_char(digit(b % 16) as char)
 }
 
 // TEXT.
-pub fn name<W: Write>(writer: &mut W, s: &[u8]) -> io::Result<()> {
-    text(writer, b" ")?;
-    if s.len() == 0 {
-        text(writer, b"-")?;
+#[derive(Clone, Copy)]
+pub struct Text<'a>(pub &'a [u8]);
+
+impl fmt::Display for Text<'_> {
+    fn fmt<W: fmt::Write>(&self, f: &mut fmt::Formatter<W>) -> fmt::Result {
+        match self.0 {
+            [] => f.write_str("-"),
+            b"-" => f.write_str("%2D"),
+            bytes => {
+                for b in bytes {
+                    character(f, *b)?;
+                }
+                Ok(())
+            }
+        }
     }
-    for byte in s {
-        character(writer, *byte, s.len() == 1)?;
-    }
-    Ok(())
 }
 
-// The number that a part of a list begins with: the first part, for which `later` is 0, stands after a space, the others after a comma.
-pub fn joined<W: Write>(writer: &mut W, later: usize, n: u64) -> io::Result<()> {
-    marked(writer, parts::front(parts::from(b" ,", later), 1), n)
-}
+// DOTS, of the dots in these bytes.
+#[derive(Clone, Copy)]
+pub struct Dots<'a>(pub &'a [u8]);
 
-// Dot number i of a list.
-fn dot<W: Write>(writer: &mut W, s: &[u8], i: usize) -> io::Result<()>
-    requires { i * dot_size + dot_size ≤ length s.now }
-{
-    let dot = dots::dot_at(s, i * dots::DOT_SIZE);
-    joined(writer, parts::least(i, 1), dot.actor.number as u64)?;
-    marked(writer, b":", dot.counter.number)
-}
-
-// DOTS: so many of the dots in these bytes.
-pub fn dots<W: Write>(writer: &mut W, s: &[u8], count: usize) -> io::Result<()> {
-    let most = parts::least(count, s.len() / dots::DOT_SIZE);
-    if most == 0 {
-        text(writer, b" -")?;
+impl fmt::Display for Dots<'_> {
+    fn fmt<W: fmt::Write>(&self, f: &mut fmt::Formatter<W>) -> fmt::Result {
+        if self.0.len() < dots::DOT_SIZE {
+            return f.write_str("-");
+        }
+        for (i, bytes) in self.0.chunks_exact(dots::DOT_SIZE).enumerate() {
+            let mark = if i == 0 { "" } else { "," };
+            let dot = dots::dot_at(bytes, 0);
+            let actor = dot.actor.number;
+            let counter = dot.counter.number;
+            write!(f, "{mark}{actor}:{counter}")?;
+        }
+        Ok(())
     }
-    for i in 0..most {
-        dot(writer, s, i)?;
-    }
-    Ok(())
 }
 
 // What was written to an output. The bytes past it must be as they were before the call.
-pub fn bytes_written<W: Write>(writer: &mut W, out: &[u8], written: usize) -> io::Result<()> {
-    hex(writer, parts::front(out, written))?;
-    if !parts::is_filled(parts::from(out, written), OUT_FILL) {
-        text(writer, b" output-changed")?;
-    }
-    Ok(())
+#[derive(Clone, Copy)]
+pub struct Output<'a> {
+    pub bytes: &'a [u8],
+    pub written: usize,
 }
 
-// A number and what was written to an output.
-pub fn output<W: Write>(writer: &mut W, n: u64, out: &[u8], written: usize) -> io::Result<()> {
-    number(writer, n)?;
-    bytes_written(writer, out, written)
+impl fmt::Display for Output<'_> {
+    fn fmt<W: fmt::Write>(&self, f: &mut fmt::Formatter<W>) -> fmt::Result {
+        let written = Hex(parts::front(self.bytes, self.written));
+        let rest = parts::from(self.bytes, self.written);
+        write!(f, "{written}")?;
+        if rest.iter().any(|b| *b != OUT_FILL) {
+            f.write_str(" output-changed")?;
+        }
+        Ok(())
+    }
 }

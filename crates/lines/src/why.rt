@@ -1,60 +1,107 @@
-// Why a line is no command, or cannot be carried out: the place of the reason in the list below, and 0 for none.
-use crate::{parts, print};
-use std::io;
-use std::io::Write;
+// Why a line is no command, or cannot be carried out.
+use std::alloc::{AllocError, AllocFailed};
+use std::error::Error;
+use std::fmt;
 
-pub const CARRIAGE_RETURN: u8 = 1;
-
-pub const SPACE: u8 = 2;
-
-pub const MISSING: u8 = 3;
-
-pub const TOO_MANY: u8 = 4;
-
-pub const NO_NUMBER: u8 = 5;
-
-pub const TOO_LARGE: u8 = 6;
-
-pub const OVER_BYTE: u8 = 7;
-
-pub const CUT_TEXT: u8 = 8;
-
-pub const BAD_TEXT: u8 = 9;
-
-pub const PLAIN_TEXT: u8 = 10;
-
-pub const NO_HEX: u8 = 11;
-
-pub const NO_COUNTER: u8 = 12;
-
-pub const NO_CONTROLLER: u8 = 13;
-
-pub const NO_COMMAND: u8 = 14;
-
-pub const NO_TYPE: u8 = 15;
-
-pub const NO_POKE: u8 = 16;
-
-pub const LONG_NAME: u8 = 17;
-
-pub const NO_ROW: u8 = 18;
-
-pub const OUTSIDE: u8 = 19;
-
-pub const LONG_LINE: u8 = 20;
-
-pub const LONG_INPUT: u8 = 21;
-
-pub const NO_WORD: u8 = 22;
-
-// The output of a line that was not carried out: the reason, with the number of the field that it is about, or 0 for the whole line.
-pub fn refuse<W: Write>(writer: &mut W, why: u8, field: usize) -> io::Result<()> {
-    let reasons =
-        b";carriage return\n;space at an end or two spaces\n;missing\n;one too many\n;not a number\n;number too large\n;number over 255\n;cut % in text\n;bad % in text\n;byte that text must write as %\n;not hexadecimal\n;dot without counter\n;controllers are 0 to 15\n;unknown command\n;key types are c, d, e and z\n;unknown poke\n;name over 16 bytes\n;rows are 1 to 16\n;outside what can be set\n;line over 262144 bytes\n;input over 2097152 bytes\n;missing command\n";
-    print::text(writer, b"? ")?;
-    if field != 0 {
-        print::marked(writer, b"field ", field as u64)?;
-        print::text(writer, b": ")?;
-    }
-    print::text(writer, parts::field(reasons, b';', why as usize))
+#[derive(Clone, Copy, Debug, PartialEq, Eq)]
+pub enum Why {
+    CarriageReturn,
+    Space,
+    Missing,
+    TooMany,
+    NoNumber,
+    TooLarge,
+    OverByte,
+    CutText,
+    BadText,
+    PlainText,
+    NoHex,
+    NoCounter,
+    NoController,
+    NoCommand,
+    NoType,
+    NoPoke,
+    LongName,
+    NoRow,
+    Outside,
+    LongLine,
+    LongInput,
+    NoWord,
+    OutOfMemory,
 }
+
+impl Why {
+    fn text(self) -> &'static str {
+        match self {
+            Why::CarriageReturn => "carriage return",
+            Why::Space => "space at an end or two spaces",
+            Why::Missing => "missing",
+            Why::TooMany => "one too many",
+            Why::NoNumber => "not a number",
+            Why::TooLarge => "number too large",
+            Why::OverByte => "number over 255",
+            Why::CutText => "cut % in text",
+            Why::BadText => "bad % in text",
+            Why::PlainText => "byte that text must write as %",
+            Why::NoHex => "not hexadecimal",
+            Why::NoCounter => "dot without counter",
+            Why::NoController => "controllers are 0 to 15",
+            Why::NoCommand => "unknown command",
+            Why::NoType => "key types are c, d, e and z",
+            Why::NoPoke => "unknown poke",
+            Why::LongName => "name over 16 bytes",
+            Why::NoRow => "rows are 1 to 16",
+            Why::Outside => "outside what can be set",
+            Why::LongLine => "line over 262144 bytes",
+            Why::LongInput => "input over 2097152 bytes",
+            Why::NoWord => "missing command",
+            Why::OutOfMemory => "out of memory",
+        }
+    }
+}
+
+impl fmt::Display for Why {
+    fn fmt<W: fmt::Write>(&self, f: &mut fmt::Formatter<W>) -> fmt::Result {
+        f.write_str(self.text())
+    }
+}
+
+impl Error for Why {}
+
+impl From<AllocError> for Why {
+    fn from(_error: AllocError) -> Why {
+        Why::OutOfMemory
+    }
+}
+
+impl<T: Drop> From<AllocFailed<T>> for Why {
+    fn from(_error: AllocFailed<T>) -> Why {
+        Why::OutOfMemory
+    }
+}
+
+// A reason, and the number of the field that it is about, if it is not about the whole line.
+#[derive(Clone, Copy, Debug, PartialEq, Eq)]
+pub struct Refusal {
+    pub why: Why,
+    pub field: Option<usize>,
+}
+
+impl From<Why> for Refusal {
+    fn from(why: Why) -> Refusal {
+        Refusal { why, field: None }
+    }
+}
+
+// The output of a line that was not carried out.
+impl fmt::Display for Refusal {
+    fn fmt<W: fmt::Write>(&self, f: &mut fmt::Formatter<W>) -> fmt::Result {
+        let why = self.why;
+        match self.field {
+            Some(field) => write!(f, "? field {field}: {why}"),
+            None => write!(f, "? {why}"),
+        }
+    }
+}
+
+impl Error for Refusal {}

@@ -1,14 +1,14 @@
 -- A walk over keys end to end: each key has room for its fields, says one entry, and leaves the entries of the keys after it. Assumes nothing.
 use mathlib.Core.Path.{◌≡◌, refl, sym, ap, ◌∙◌}
 use mathlib.Core.Bool.{Bool, true, false, not, ◌&&◌}
-use mathlib.Core.List.{List, []}
+use mathlib.Core.List.{List, [], ◌∷◌}
 use Prim.Native.Nat.{ℕ, ◌+◌, ◌-◌, ◌≤◌, ◌<◌}
 use native.Mathlib.Omega.{arith}
 use lib.Dec.{leb}
 use lib.ListN.{length, take, drop, drop_of_length-le}
 use borrow.Author.Tests.{leb-true}
 use Rattle.wire.specs.Lists.{any, all, member}
-use Rattle.wire.specs.Bytes.{Bytes, between}
+use Rattle.wire.specs.Bytes.{Bytes, part_at, between}
 use Rattle.wire.proofs.Tests.{both_left, both_right}
 use Rattle.wire.proofs.Parts.{rest_part, size-part}
 use Rattle.dots.specs.declared.Dot.{Dot}
@@ -16,14 +16,20 @@ use Rattle.dots.specs.Names.{name_most, label_most}
 use Rattle.dots.specs.Dots.{compare_dots}
 use Rattle.dots.specs.Entries.{Entry}
 use Rattle.keys.specs.Key.{label_key_fixed, suffix_size}
-use Rattle.store.specs.Cut.{key_length, keys_after, key_dot, entries_in}
+use Rattle.store.specs.Cut.{key_length, keys_after, key_dot, key_says, entries_in}
 use Rattle.store.specs.Valid.{keys_fit}
 use Rattle.store.proofs.Walk.{first_key_lem, key-size, end-within as key-within}
 use Rattle.reader.specs.Reading.{key_end}
 use Rattle.reader.proofs.KeyEnds.{key_end_is}
-use Rattle.listing.specs.declared.ListedKey.{ListedKey}
 use Rattle.listing.specs.Listing.{is_live}
-use Rattle.listing.specs.Lines.{KeyAt}
+
+-- a key at a place of keys end to end: the entry that it says, whether a tombstone has its dot, and the keys after it
+pub record KeyAt (n : ℕ) (keys : Bytes) (tombstone : List Dot) (at end : ℕ) (dead : Bool) : Type 0 where
+  pub says : entries_in n (drop at keys) ≡ key_says n (part_at keys at (end - at)) ∷ entries_in n (drop end keys)
+  pub live-is : not dead ≡ is_live tombstone (key_dot (part_at keys at (end - at)))
+  pub rest-fits : keys_fit n (drop end keys) ≡ true
+  pub later : at < end
+  pub within : end ≤ length keys
 
 -- ---- the key at a place
 
@@ -58,7 +64,7 @@ module _ (n : ℕ) (keys : Bytes) (at end : ℕ) (short : n ≤ name_most) (more
 
   -- the key as it was read
   pub key-at : (tombstone : List Dot) (dot : Dot) (dead : Bool) → dot ≡ key_dot (take (end - at) (drop at keys)) → dead ≡ member compare_dots dot tombstone
-      → KeyAt n keys tombstone at (record { end = end; live = not dead })
+      → KeyAt n keys tombstone at end dead
   unfolding entries_in
   key-at tombstone dot dead said tested = record {
     says = rw (part-is, end_is, first_key_lem n keys at len more refl);
@@ -78,12 +84,12 @@ abbrev pub some_live : List Dot → List Entry → Bool
 some_live tombstone es = any (λ (e : Entry). is_live tombstone e.dot) es
 
 -- whether some dot is live: here, or of the keys after it
-module _ (n : ℕ) (keys : Bytes) (tombstone : List Dot) (at : ℕ) (k : ListedKey) (key : KeyAt n keys tombstone at k)
+module _ (n : ℕ) (keys : Bytes) (tombstone : List Dot) (at end : ℕ) (dead : Bool) (key : KeyAt n keys tombstone at end dead)
     (whole : Bool) (inv : whole ≡ some_live tombstone (entries_in n (drop at keys))) where
-  pub live_here : k.live ≡ true → true ≡ whole
+  pub live_here : dead ≡ false → true ≡ whole
   unfolding any
   live_here t = sym (inv ∙ rw (key.says, ← key.live-is, t))
 
-  pub live-later : k.live ≡ false → whole ≡ some_live tombstone (entries_in n (drop k.end keys))
+  pub live-later : dead ≡ true → whole ≡ some_live tombstone (entries_in n (drop end keys))
   unfolding any
   live-later t = inv ∙ rw (key.says, ← key.live-is, t)

@@ -1,28 +1,27 @@
 -- The bytes of a line, put one part after the other: a walk over keys of one length puts their listed dots. Assumes nothing.
 use mathlib.Core.Path.{◌≡◌, refl, sym, ap, ◌∙◌}
-use mathlib.Core.Bool.{Bool, true, false, not}
+use mathlib.Core.Bool.{Bool, true, false}
 use mathlib.Core.List.{List, [], ◌∷◌, ◌++◌, append_assoc, append-nil}
 use Prim.Native.Nat.{ℕ, ◌+◌, ◌-◌, ◌*◌, ◌≤◌, ◌<◌}
 use native.Mathlib.Omega.{arith}
-use lib.Dec.{eqb}
+use lib.Dec.{leb, eqb}
 use lib.ListN.{length, take, drop, length-append, length-drop, drop_of_length-le}
-use lib.Seq.{drop-drop}
-use borrow.Author.Tests.{eqb-true}
-use Rattle.wire.specs.Lists.{cons_if, keep, all, member}
+use lib.Seq.{take_at, drop_at, drop-drop}
+use borrow.Author.Tests.{leb-true, leb-false, eqb-true}
+use Rattle.wire.specs.Lists.{cons_if, keep, all}
 use Rattle.wire.specs.Bytes.{Bytes, put_at}
 use Rattle.wire.proofs.BigEndian.{length-big_endian}
 use Rattle.wire.proofs.Fields.{put_next, put_front, part_length}
 use Rattle.wire.proofs.Parts.{rest_part, size-part}
 use Rattle.dots.specs.declared.Dot.{Dot}
 use Rattle.dots.specs.Names.{Label, label_most}
-use Rattle.dots.specs.Dots.{compare_dots}
 use Rattle.dots.specs.Wire.{dot_bytes, dots_bytes, dot_size}
 use Rattle.dots.proofs.RoundTrip.{length-dots, dots-append}
 use Rattle.keys.specs.Key.{prefix_fixed, suffix_size}
 use Rattle.store.specs.Cut.{key_length, keys_of, key_dot, entries_in}
 use Rattle.store.proofs.Walk.{first_key_lem, key-size, end-within, every_here, every_later}
 use Rattle.listing.specs.declared.ListedLine.{ListedLine}
-use Rattle.listing.specs.Listing.{is_live, line_fixed, line_bytes, line_size}
+use Rattle.listing.specs.Listing.{line_fixed, line_bytes, line_size}
 use Rattle.listing.specs.Lines.{label_of, dots_in, listed_dots, FirstLine, line_head, line_of}
 use Rattle.listing.proofs.Listings.{length-line}
 use Rattle.listing.proofs.ListedKeys.{no_entries}
@@ -45,11 +44,8 @@ module _ (n size : ℕ) (keys : Bytes) (at : ℕ) (more : at < length keys) (eve
       let here : length (take (at + len - at) (drop at keys)) ≡ size = eqb-true (length (take (at + len - at) (drop at keys))) size (every_here n keys at len more refl (λ (k : Bytes). eqb (length k) size) every) in
       sym here ∙ rw size-part (key-size n keys at len more refl)
 
-  pub size-within : at + size ≤ length keys
+  size-within : at + size ≤ length keys
   size-within = end-within n keys at size more size-read
-
-  pub dot-room : suffix_size - 1 ≤ size → suffix_size - 1 ≤ length (take (at + size - at) (drop at keys))
-  dot-room h = rw (size-part, key-size n keys at size more size-read) h
 
   sized-later : EachSized n size (drop (at + size) keys)
   sized-later = every_later n keys at size more size-read (λ (k : Bytes). eqb (length k) size) every
@@ -70,12 +66,12 @@ pub record DotsWalk (n : ℕ) (keys : Bytes) (p : Dot → Bool) (size : ℕ) (ou
   pub same_size : length out ≡ length out₀
 
 module _ (n : ℕ) (keys : Bytes) (p : Dot → Bool) (size : ℕ) (out₀ : Bytes) where
-  pub walk_start : EachSized n size keys → DotsWalk n keys p size out₀ out₀ 0 0
+  walk_start : EachSized n size keys → DotsWalk n keys p size out₀ out₀ 0 0
   unfolding dots_bytes
   walk_start every = record { done = []; within = omega arith; sized = every; dots_are = refl; put_are = sym (put_front out₀ []); next-is = refl; same_size = refl }
 
   module _ (out : Bytes) (next at : ℕ) (w : DotsWalk n keys p size out₀ out next at) where
-    pub walk_end : length keys ≤ at → out ≡ put_at out₀ 0 (dots_bytes (kept_dots n keys p))
+    walk_end : length keys ≤ at → out ≡ put_at out₀ 0 (dots_bytes (kept_dots n keys p))
     unfolding keep
     walk_end h =
         let all_done : w.done ≡ kept_dots n keys p = sym (append-nil w.done) ∙ rw (no_entries n keys at h) at w.dots_are in
@@ -121,20 +117,65 @@ module _ (n : ℕ) (keys : Bytes) (p : Dot → Bool) (size : ℕ) (out₀ : Byte
           same_size = same ∙ w.same_size;
         }
 
--- the listed dots: those that are not in the tombstone
-module _ (n : ℕ) (keys : Bytes) (tombstone : List Dot) (size : ℕ) (out₀ out : Bytes) (next at : ℕ) (w : DotsWalk n keys (is_live tombstone) size out₀ out next at)
-    (more : at < length keys) (dot : Dot) (dead : Bool) (said : dot ≡ key_dot (take (at + size - at) (drop at keys))) (tested : dead ≡ member compare_dots dot tombstone) where
-  pub walk-dead : not dead ≡ false → DotsWalk n keys (is_live tombstone) size out₀ out next (at + size)
-  walk-dead f = walk-past n keys (is_live tombstone) size out₀ out next at w more dot said (ap not (sym tested) ∙ f)
+-- a walk by chunks: those that are left are the keys from a place on
+pub record ChunksWalk (n : ℕ) (keys : Bytes) (p : Dot → Bool) (size : ℕ) (out₀ out : Bytes) (next : ℕ) (rest : Bytes) (chunk : ℕ) : Type 0 where
+  pub place : ℕ
+  pub walk : DotsWalk n keys p size out₀ out next place
+  pub left : rest ≡ drop place keys
+  pub chunk-is : chunk ≡ size
 
-  module _ (live : not dead ≡ true) (room : dot_size * length (listed_dots n keys tombstone) ≤ length out₀) where
-    pub put-room : next + dot_size ≤ length out
-    put-room = room_next n keys (is_live tombstone) size out₀ out next at w more dot said (ap not (sym tested) ∙ live) room
+pub chunks_start : (n : ℕ) (keys : Bytes) (p : Dot → Bool) (size : ℕ) (out₀ : Bytes) → EachSized n size keys → (rest : Bytes) (chunk : ℕ) → rest ≡ keys → chunk ≡ size
+    → ChunksWalk n keys p size out₀ out₀ 0 rest chunk
+chunks_start n keys p size out₀ every rest chunk e f = record { place = 0; walk = walk_start n keys p size out₀ every; left = e; chunk-is = f }
 
-    pub walk-live : (out' : Bytes) (next' : ℕ) → next' ≡ next + dot_size → out' ≡ put_at out next (dot_bytes (key_dot (take (at + size - at) (drop at keys)))) → length out' ≡ length out
-        → DotsWalk n keys (is_live tombstone) size out₀ out' next' (at + size)
-    walk-live out' next' e put same =
-        walk_put n keys (is_live tombstone) size out₀ out next at w more dot said (ap not (sym tested) ∙ live) room out' next' e (put ∙ ap (λ (d : Dot). put_at out next (dot_bytes d)) (sym said)) same
+module _ (n : ℕ) (keys : Bytes) (p : Dot → Bool) (size : ℕ) (out₀ out : Bytes) (next : ℕ) (rest : Bytes) (chunk : ℕ) (w : ChunksWalk n keys p size out₀ out next rest chunk) where
+  no_more : length rest < chunk → length keys ≤ w.place
+  no_more h = go (leb (length keys) w.place) refl
+    where
+      go : (b : Bool) → leb (length keys) w.place ≡ b → length keys ≤ w.place
+      go true t = leb-true (length keys) w.place t
+      go false f =
+          let more : w.place < length keys = leb-false (length keys) w.place f in
+          absurd (omega (arith, size-within n size keys w.place more w.walk.sized, w.chunk-is, ap length w.left, length-drop w.place keys))
+
+  pub chunks_end : length rest < chunk → out ≡ put_at out₀ 0 (dots_bytes (kept_dots n keys p))
+  chunks_end h = walk_end n keys p size out₀ out next w.place w.walk (no_more h)
+
+  -- the next of them
+  module _ (some : 0 < size) (key rest' : Bytes) (cut : rest ≡ key ++ rest') (long : length key ≡ chunk) where
+    more : w.place < length keys
+    more = omega (arith, w.chunk-is, ap length cut, length-append key rest', ap length w.left, length-drop w.place keys)
+
+    key-is : key ≡ take (w.place + size - w.place) (drop w.place keys)
+    key-is = rw size-part (sym (ap (take size) (sym w.left ∙ cut) ∙ take_at key rest' size (long ∙ w.chunk-is)))
+
+    rest-is : rest' ≡ drop (w.place + size) keys
+    rest-is = sym (sym (drop-drop size w.place keys) ∙ ap (drop size) (sym w.left ∙ cut) ∙ drop_at key rest' size (long ∙ w.chunk-is))
+
+    pub key-long : suffix_size - 1 ≤ size → suffix_size - 1 ≤ length key
+    key-long h = omega (arith, long, w.chunk-is)
+
+    module _ (dot : Dot) (said : dot ≡ key_dot key) where
+      pub chunk_past : p dot ≡ false → (chunk' : ℕ) → chunk' ≡ chunk → ChunksWalk n keys p size out₀ out next rest' chunk'
+      chunk_past f chunk' e = record {
+        place = w.place + size;
+        walk = walk-past n keys p size out₀ out next w.place w.walk more dot (said ∙ ap key_dot key-is) f;
+        left = rest-is;
+        chunk-is = e ∙ w.chunk-is;
+      }
+
+      module _ (kept : p dot ≡ true) (room : dot_size * length (kept_dots n keys p) ≤ length out₀) where
+        pub chunk_room : next + dot_size ≤ length out
+        chunk_room = room_next n keys p size out₀ out next w.place w.walk more dot (said ∙ ap key_dot key-is) kept room
+
+        pub chunk_put : (out' : Bytes) (next' : ℕ) → next' ≡ next + dot_size → out' ≡ put_at out next (dot_bytes (key_dot key)) → length out' ≡ length out → (chunk' : ℕ) → chunk' ≡ chunk
+            → ChunksWalk n keys p size out₀ out' next' rest' chunk'
+        chunk_put out' next' e put same chunk' f = record {
+          place = w.place + size;
+          walk = walk_put n keys p size out₀ out next w.place w.walk more dot (said ∙ ap key_dot key-is) kept room out' next' e (put ∙ ap (λ (d : Dot). put_at out next (dot_bytes d)) (sym said)) same;
+          left = rest-is;
+          chunk-is = f ∙ w.chunk-is;
+        }
 
 -- all dots
 abbrev pub every_dot : Dot → Bool
@@ -145,22 +186,11 @@ unfolding keep
 keep_every [] = refl
 keep_every (d ∷ ds) = ap (λ (t : List Dot). d ∷ t) (keep_every ds)
 
-module _ (n : ℕ) (keys : Bytes) (size : ℕ) (out₀ out : Bytes) (next at : ℕ) (w : DotsWalk n keys every_dot size out₀ out next at) where
-  pub every_end : length keys ≤ at → out ≡ put_at out₀ 0 (dots_bytes (dots_in n keys))
-  every_end h = walk_end n keys every_dot size out₀ out next at w h ∙ ap (λ (ds : List Dot). put_at out₀ 0 (dots_bytes ds)) (keep_every (dots_in n keys))
+pub every_room : (n : ℕ) (keys : Bytes) (room : ℕ) → dot_size * length (dots_in n keys) ≤ room → dot_size * length (kept_dots n keys every_dot) ≤ room
+every_room n keys room h = rw (keep_every (dots_in n keys)) h
 
-  module _ (more : at < length keys) (room : dot_size * length (dots_in n keys) ≤ length out₀) where
-    abbrev here : Dot
-    here = key_dot (take (at + size - at) (drop at keys))
-
-    every_room : dot_size * length (kept_dots n keys every_dot) ≤ length out₀
-    every_room = rw (keep_every (dots_in n keys)) room
-
-    pub all_room : next + dot_size ≤ length out
-    all_room = room_next n keys every_dot size out₀ out next at w more here refl refl every_room
-
-    pub walk-all : (out' : Bytes) (next' : ℕ) → next' ≡ next + dot_size → out' ≡ put_at out next (dot_bytes here) → length out' ≡ length out → DotsWalk n keys every_dot size out₀ out' next' (at + size)
-    walk-all = walk_put n keys every_dot size out₀ out next at w more here refl refl every_room
+pub every_end : (n : ℕ) (keys out out' : Bytes) → out' ≡ put_at out 0 (dots_bytes (kept_dots n keys every_dot)) → out' ≡ put_at out 0 (dots_bytes (dots_in n keys))
+every_end n keys out out' put = put ∙ ap (λ (ds : List Dot). put_at out 0 (dots_bytes ds)) (keep_every (dots_in n keys))
 
 -- ---- the parts of a line
 

@@ -1,34 +1,16 @@
 -- The line at the front of keys end to end: where its keys end, how many of its dots are listed, and its bytes. n is the length of the set's name.
-use Rattle.std.specs.Prelude.{ℕ, ◌+◌, ◌-◌, ◌*◌, ◌≤◌, ◌<◌, Bool, true, cond, ◌&&◌, List, [], ◌∷◌, ◌++◌, map, ◌≡◌, eqb, leb, length, take, drop}
+use Rattle.std.specs.Prelude.{ℕ, ◌+◌, ◌*◌, ◌≤◌, ◌<◌, Bool, true, cond, ◌&&◌, List, [], ◌∷◌, ◌++◌, map, ◌≡◌, eqb, leb, length, take, drop}
 use Rattle.wire.specs.Lists.{keep, all}
 use Rattle.wire.specs.Bytes.{Bytes, big_endian, part_at, put_at, starts_with}
 use Rattle.dots.specs.declared.Dot.{Dot}
 use Rattle.dots.specs.Names.{Label, name_most, label_most}
-use Rattle.dots.specs.Dots.{ascending_dots}
-use Rattle.dots.specs.Wire.{dots_of, dot_size}
+use Rattle.dots.specs.Wire.{dot_size}
 use Rattle.dots.specs.Entries.{entry_dot, Line, line}
-use Rattle.slots.specs.Slots.{Slotted}
 use Rattle.keys.specs.Key.{label_key_fixed, prefix_fixed}
-use Rattle.store.specs.Cut.{keys_of, key_dot, key_says, entries_in}
-use Rattle.store.specs.Valid.{keys_fit, store_most}
-use Rattle.listing.specs.declared.ListedKey.{ListedKey}
+use Rattle.store.specs.Cut.{keys_of, key_dot, entries_in}
+use Rattle.store.specs.Valid.{store_most}
 use Rattle.listing.specs.declared.ListedLine.{ListedLine}
 use Rattle.listing.specs.Listing.{is_live, line_fixed, line_size, lines_of_live, listing_bytes, StoredKeys}
-
--- ---- one key
-
--- what reading a key at a place counts on: room in the keys from there on, and an ascending tombstone with its slots set
-abbrev pub CanListKey : ℕ → Bytes → Bytes → Bytes → ℕ → Type 0
-CanListKey n keys tombstone slots at =
-    (n ≤ name_most) × (at < length keys) × (keys_fit n (drop at keys) ≡ true) × (ascending_dots (dots_of tombstone) ≡ true) × Slotted (dots_of tombstone) slots
-
--- a key at a place of keys end to end: the entry that it says, and the keys after it
-pub record KeyAt (n : ℕ) (keys : Bytes) (tombstone : List Dot) (at : ℕ) (k : ListedKey) : Type 0 where
-  pub says : entries_in n (drop at keys) ≡ key_says n (part_at keys at (k.end - at)) ∷ entries_in n (drop k.end keys)
-  pub live-is : k.live ≡ is_live tombstone (key_dot (part_at keys at (k.end - at)))
-  pub rest-fits : keys_fit n (drop k.end keys) ≡ true
-  pub later : at < k.end
-  pub within : k.end ≤ length keys
 
 -- ---- one line
 
@@ -57,10 +39,8 @@ with_key n keys tombstone l = record {
 }
 
 -- what this counts on: the key stands in the keys, and the count in its bounds
-abbrev pub CanAddKey : ℕ → Bytes → Bytes → Bytes → ListedLine → Type 0
-CanAddKey n keys tombstone slots l =
-    (l.end + key_size n l ≤ length keys) × (l.count ≤ store_most) × (length keys ≤ store_most)
-    × (ascending_dots (dots_of tombstone) ≡ true) × Slotted (dots_of tombstone) slots
+abbrev pub CanAddKey : ℕ → Bytes → ListedLine → Type 0
+CanAddKey n keys l = (l.end + key_size n l ≤ length keys) × (l.count ≤ store_most) × (length keys ≤ store_most)
 
 -- whether the key after those of a line begins, past the set's prefix, with the line's label and its closing 00
 unfoldable pub goes_on : ℕ → Bytes → ListedLine → Bool
@@ -111,25 +91,21 @@ CanPutAllDots n len keys room =
     (n ≤ name_most) × (len ≤ label_most) × (all (λ (k : Bytes). eqb (length k) (n + len + label_key_fixed)) (keys_of n keys) ≡ true)
     × (dot_size * length (dots_in n keys) ≤ room)
 
-abbrev pub CanPutDots : ℕ → ℕ → Bytes → Bytes → Bytes → ℕ → Type 0
-CanPutDots n len keys tombstone slots room =
+abbrev pub CanPutDots : ℕ → ℕ → Bytes → List Dot → ℕ → Type 0
+CanPutDots n len keys tombstone room =
     (n ≤ name_most) × (len ≤ label_most) × (all (λ (k : Bytes). eqb (length k) (n + len + label_key_fixed)) (keys_of n keys) ≡ true)
-    × (ascending_dots (dots_of tombstone) ≡ true) × Slotted (dots_of tombstone) slots × (dot_size * length (listed_dots n keys (dots_of tombstone)) ≤ room)
+    × (dot_size * length (listed_dots n keys tombstone) ≤ room)
 
 -- the line's label with its listed dots
 abbrev pub line_of : ℕ → Bytes → List Dot → ListedLine → Line
 line_of n keys tombstone l = line (label_of n keys l.len) (listed_dots n (take l.end keys) tombstone)
 
 -- what writing the line at the front of keys counts on: room for it
-abbrev pub CanPutLine : ℕ → Bytes → Bytes → Bytes → ListedLine → ℕ → Type 0
-CanPutLine n keys tombstone slots l room =
-    (n ≤ name_most) × (length keys ≤ store_most) × FirstLine n keys (dots_of tombstone) l
-    × (ascending_dots (dots_of tombstone) ≡ true) × Slotted (dots_of tombstone) slots × (line_size (line_of n keys (dots_of tombstone) l) ≤ room)
+abbrev pub CanPutLine : ℕ → Bytes → List Dot → ListedLine → ℕ → Type 0
+CanPutLine n keys tombstone l room = (n ≤ name_most) × (length keys ≤ store_most) × FirstLine n keys tombstone l × (line_size (line_of n keys tombstone l) ≤ room)
 
-abbrev pub CanPutListed : ℕ → Bytes → Bytes → Bytes → ListedLine → ℕ → Type 0
-CanPutListed n keys tombstone slots l room =
-    (n ≤ name_most) × (length keys ≤ store_most) × FirstLine n keys (dots_of tombstone) l
-    × (ascending_dots (dots_of tombstone) ≡ true) × Slotted (dots_of tombstone) slots × (listed_size l ≤ room)
+abbrev pub CanPutListed : ℕ → Bytes → List Dot → ListedLine → ℕ → Type 0
+CanPutListed n keys tombstone l room = (n ≤ name_most) × (length keys ≤ store_most) × FirstLine n keys tombstone l × (listed_size l ≤ room)
 
 -- lines are put at the front of out, which becomes out'; r is how many they are
 abbrev pub ListedPut : List Line → Bytes → Bytes → ℕ → Type 0

@@ -5,10 +5,9 @@ use Rattle.wire.specs.Lists.{keep, member, all, Ascending}
 use Rattle.wire.specs.Bytes.{Bytes, big_endian, put_at}
 use Rattle.dots.specs.declared.Dot.{Dot}
 use Rattle.dots.specs.Names.{Name, name_most}
-use Rattle.dots.specs.Dots.{compare_dots, ascending_dots}
+use Rattle.dots.specs.Dots.{compare_dots}
 use Rattle.dots.specs.Wire.{dots_bytes, dots_of}
 use Rattle.dots.specs.Entries.{Entry, compare_entries, Line, lines_of}
-use Rattle.slots.specs.Slots.{Slotted}
 use Rattle.keys.specs.Entry.{entry_ok}
 use Rattle.store.specs.Cut.{store_bytes, entries_in}
 use Rattle.store.specs.Valid.{store_most}
@@ -53,10 +52,9 @@ pub record StoredKeys (n : ℕ) (keys : Bytes) : Type 0 where
   pub valid : all entry_ok (entries_in n keys) ≡ true
   pub ascend : Ascending compare_entries (entries_in n keys)
 
--- what a walk over them counts on: an ascending tombstone with its slots set besides
-abbrev pub CanList : ℕ → Bytes → Bytes → Bytes → Type 0
-CanList n keys tombstone slots =
-    (n ≤ name_most) × (length keys ≤ store_most) × StoredKeys n keys × (ascending_dots (dots_of tombstone) ≡ true) × Slotted (dots_of tombstone) slots
+-- what a walk over them counts on
+abbrev pub CanList : ℕ → Bytes → Type 0
+CanList n keys = (n ≤ name_most) × (length keys ≤ store_most) × StoredKeys n keys
 
 -- of the lines of a listing those are put at the front of out, which becomes out'; the rest of it keeps its values
 pub record PutsLines (ls put : List Line) (out out' : Bytes) (r : LinesPut) : Type 0 where

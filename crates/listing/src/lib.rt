@@ -4,7 +4,7 @@
 
 ghost use Rattle.std.specs.Prelude.{◌≡◌, true, ◌+◌, ◌-◌, ◌^◌, ◌≤◌, ◌<◌, length};
 ghost use Rattle.wire.specs.Lists.{any};
-ghost use Rattle.wire.specs.Bytes.{big_endian, put_at};
+ghost use Rattle.wire.specs.Bytes.{put_at};
 ghost use Rattle.dots.specs.Names.{name_most, label_most};
 ghost use Rattle.dots.specs.Dots.{ascending_dots};
 ghost use Rattle.dots.specs.Wire.{dots_of, dot_bytes, dots_bytes, dot_size};
@@ -13,49 +13,37 @@ ghost use Rattle.keys.specs.Key.{suffix_size};
 ghost use Rattle.store.specs.Cut.{key_dot, entries_in};
 ghost use Rattle.store.specs.Valid.{keys_fit};
 ghost use Rattle.listing.specs.Listing.{is_live, key_lines, line_fixed, line_bytes, CanList, PutsOrCounts, PutsWanted};
-ghost use Rattle.listing.specs.Lines.{CanListKey, KeyAt, CanAddKey, with_key, CanGoOn, goes_on, FirstLine, listed_size, dots_in, listed_dots, line_head, CanPutAllDots, CanPutDots, line_of, CanPutLine, lines_of_line, CanPutListed, ListedPut};
+ghost use Rattle.listing.specs.Lines.{CanAddKey, with_key, CanGoOn, goes_on, FirstLine, listed_size, dots_in, listed_dots, line_head, CanPutAllDots, CanPutDots, line_of, CanPutLine, lines_of_line, CanPutListed, ListedPut};
 
 // Bytes of a line beside its label and its dots: the label's length and the number of dots.
 pub const LINE_FIXED: usize = 3;
 
 // ---- keys
 
-// A key of a walk over keys: where it ends, and whether its dot is not in the tombstone.
-#[derive(Clone, Copy)]
-struct ListedKey {
-    end: usize,
-    live: bool,
-}
-
-// The key at a place, with the slots of the tombstone's dots.
-fn listed_key(n: usize, keys: &[u8], tombstone: &[u8], slots: &slots::Slots, at: usize) -> ListedKey
-    requires { CanListKey n keys.now tombstone.now slots.now at }
-    ensures { KeyAt n keys.now (dots_of tombstone.now) at result }
-{
-    let end = reader::key_end(keys, at, n);
-    let dot = store::key_dot(&keys[at..end]);
-    let dead = slots::holds_slotted(tombstone, slots, dot);
-    ListedKey { end, live: !dead }
-}
-
 // Whether some key's dot is not in the tombstone.
 pub fn any_live(n: usize, keys: &[u8], tombstone: &[u8]) -> bool
     requires { (n ≤ name_most) × (keys_fit n keys.now ≡ true) × (ascending_dots (dots_of tombstone.now) ≡ true) }
     ensures { result ≡ any (λ (e : Entry). is_live (dots_of tombstone.now) e.dot) (entries_in n keys.now) }
 {
-    if keys.len() == 0 {
-        return false;
-    }
-    let slots = [1u8; slots::SLOTS];
-    let mut at: usize = 0;
+    let mut at = 0;
+    // `at` is no index: keys differ in length, and each says where it ends.
     while at < keys.len() {
-        let stored = listed_key(n, keys, tombstone, &slots, at);
-        if stored.live {
+        let end = reader::key_end(keys, at, n);
+        let dot = store::key_dot(&keys[at..end]);
+        if !contexts::holds_dot(tombstone, dot) {
             return true;
         }
-        at = stored.end;
+        at = end;
     }
     false
+}
+
+// What a listing is made of: keys end to end of a set whose name has n bytes, and the dots of a tombstone, which are not listed.
+#[derive(Clone, Copy)]
+struct Listing<'a> {
+    n: usize,
+    keys: &'a [u8],
+    dead: slots::SlottedDots<'a>,
 }
 
 // ---- the line at a place
@@ -69,108 +57,96 @@ struct ListedLine {
     all: bool,
 }
 
-// The line with one more key of its label.
-fn with_key(
-    n: usize,
-    keys: &[u8],
-    tombstone: &[u8],
-    slots: &slots::Slots,
-    line: ListedLine,
-) -> ListedLine
-    requires { CanAddKey n keys.now tombstone.now slots.now line }
-    ensures { result ≡ with_key n keys.now (dots_of tombstone.now) line }
-{
-    let len = line.len;
-    let count = line.count;
-    let at = line.end;
-    let end = at + (n + len + keys::LABEL_KEY_FIXED);
-    let dot = store::key_dot(&keys[at..end]);
-    if slots::holds_slotted(tombstone, slots, dot) {
-        return ListedLine {
-            len,
+impl ListedLine {
+    // Bytes that a line takes in a listing: none where no dot of it is listed.
+    fn listed_size(self) -> usize
+        requires { (self.len ≤ label_most) × (self.count < 256 ^ 2) }
+        ensures { result ≡ listed_size self }
+    {
+        if self.count == 0 {
+            return 0;
+        }
+        LINE_FIXED + self.len + dots::DOT_SIZE * self.count
+    }
+}
+
+impl<'a> Listing<'a> {
+    // The line with one more key of its label.
+    fn with_key(self, line: ListedLine) -> ListedLine
+        requires { CanAddKey self.n self.keys.now line }
+        ensures { result ≡ with_key self.entry.n self.entry.keys.now (dots_of self.entry.dead.dots.now) line }
+    {
+        let at = line.end;
+        let end = at + (self.n + line.len + keys::LABEL_KEY_FIXED);
+        let dot = store::key_dot(&self.keys[at..end]);
+        if self.dead.holds(dot) {
+            return ListedLine {
+                end,
+                all: false,
+                ..line
+            };
+        }
+        ListedLine {
             end,
-            count,
-            all: false,
-        };
-    }
-    ListedLine {
-        len,
-        end,
-        count: count + 1,
-        all: line.all,
-    }
-}
-
-// Whether the key after those of a line has the line's label. The labels' last bytes are looked at first: most labels differ there.
-fn goes_on(n: usize, keys: &[u8], line: ListedLine) -> bool
-    requires { CanGoOn n keys.now line }
-    ensures { result ≡ goes_on n keys.now line }
-{
-    let from = n + keys::PREFIX_FIXED;
-    let last = from + (line.len - 1);
-    let next_last = line.end + last;
-    if keys.len() <= next_last {
-        return false;
-    }
-    if keys[next_last] != keys[last] {
-        return false;
-    }
-    let closed = last + 2;
-    let next = line.end + from;
-    search::starts_with(&keys[from..closed], &keys[next..])
-}
-
-// The line at the front of keys.
-fn line_at(n: usize, keys: &[u8], tombstone: &[u8], slots: &slots::Slots) -> ListedLine
-    requires { CanList n keys.now tombstone.now slots.now × (0 < length keys.now) }
-    ensures { FirstLine n keys.now (dots_of tombstone.now) result }
-{
-    let size = reader::key_end(keys, 0, n);
-    let mut line = ListedLine {
-        len: size - (n + keys::LABEL_KEY_FIXED),
-        end: 0,
-        count: 0,
-        all: true,
-    };
-    while line.end < keys.len() {
-        line = with_key(n, keys, tombstone, slots, line);
-        if !goes_on(n, keys, line) {
-            return line;
+            count: line.count + 1,
+            ..line
         }
     }
-    line
-}
 
-// Bytes that a line takes in a listing: none where no dot of it is listed.
-fn listed_size(line: ListedLine) -> usize
-    requires { (line.len ≤ label_most) × (line.count < 256 ^ 2) }
-    ensures { result ≡ listed_size line }
-{
-    if line.count == 0 {
-        return 0;
+    // Whether the key after those of a line has the line's label. The labels' last bytes are looked at first: most labels differ there.
+    fn goes_on(self, line: ListedLine) -> bool
+        requires { CanGoOn self.n self.keys.now line }
+        ensures { result ≡ goes_on self.entry.n self.entry.keys.now line }
+    {
+        let keys = self.keys;
+        let from = self.n + keys::PREFIX_FIXED;
+        let last = from + (line.len - 1);
+        let next_last = line.end + last;
+        if keys.len() <= next_last {
+            return false;
+        }
+        if keys[next_last] != keys[last] {
+            return false;
+        }
+        let closed = last + 2;
+        let next = line.end + from;
+        search::starts_with(&keys[from..closed], &keys[next..])
     }
-    LINE_FIXED + line.len + dots::DOT_SIZE * line.count
+
+    // The line at the front of the keys.
+    fn first_line(self) -> ListedLine
+        requires { CanList self.n self.keys.now × (0 < length self.keys.now) }
+        ensures { FirstLine self.entry.n self.entry.keys.now (dots_of self.entry.dead.dots.now) result }
+    {
+        let size = reader::key_end(self.keys, 0, self.n);
+        let mut line = ListedLine {
+            len: size - (self.n + keys::LABEL_KEY_FIXED),
+            end: 0,
+            count: 0,
+            all: true,
+        };
+        // A line's end is no index: it is where the key just read ends, and the keys of other labels may follow.
+        while line.end < self.keys.len() {
+            line = self.with_key(line);
+            if !self.goes_on(line) {
+                return line;
+            }
+        }
+        line
+    }
 }
 
 // ---- lines put out
-
-// A number in 2 bytes.
-fn count_bytes(n: usize) -> [u8; 2]
-    requires { n < 256 ^ 2 }
-    ensures { result ≡ big_endian 2 n }
-{
-    [(n / 256) as u8, (n % 256) as u8]
-}
 
 // Puts what stands before the dots of a line at the front of out. Returns its length.
 pub fn put_head(out: &mut [u8], label: &[u8], count: usize) -> usize
     requires { (length label.now ≤ label_most) × (count < 256 ^ 2) × (length label.now + line_fixed ≤ length out.old) }
     ensures { (result ≡ length label.now + line_fixed) × (out.new ≡ put_at out.old 0 (line_head label.now count)) }
 {
-    let size = [label.len() as u8];
-    let from = moves::put(out, 0, &size);
+    let from = moves::put(out, 0, &[label.len() as u8]);
     let next = moves::put(out, from, label);
-    moves::put(out, next, &count_bytes(count))
+    let number = (count as u16).to_be_bytes();
+    moves::put(out, next, &number)
 }
 
 // Puts the dot of a key at a place: its actor and the eight bytes of its counter, as they stand in the key. Returns the place after it.
@@ -192,80 +168,23 @@ fn put_all_dots(n: usize, len: usize, keys: &[u8], out: &mut [u8])
 {
     let size = n + len + keys::LABEL_KEY_FIXED;
     let mut next = 0;
-    let mut at = 0;
-    while at < keys.len() {
-        let end = at + size;
-        next = put_key_dot(out, next, &keys[at..end]);
-        at = end;
+    for key in keys.chunks_exact(size) {
+        next = put_key_dot(out, next, key);
     }
 }
 
 // The same of the listed dots alone.
-fn put_dots(
-    n: usize,
-    len: usize,
-    keys: &[u8],
-    tombstone: &[u8],
-    slots: &slots::Slots,
-    out: &mut [u8],
-)
-    requires { CanPutDots n len keys.now tombstone.now slots.now (length out.old) }
-    ensures { out.new ≡ put_at out.old 0 (dots_bytes (listed_dots n keys.now (dots_of tombstone.now))) }
+fn put_dots(n: usize, len: usize, keys: &[u8], dead: slots::SlottedDots<'_>, out: &mut [u8])
+    requires { CanPutDots n len keys.now (dots_of dead.dots.now) (length out.old) }
+    ensures { out.new ≡ put_at out.old 0 (dots_bytes (listed_dots n keys.now (dots_of dead.entry.dots.now))) }
 {
     let size = n + len + keys::LABEL_KEY_FIXED;
     let mut next = 0;
-    let mut at = 0;
-    while at < keys.len() {
-        let end = at + size;
-        let dot = store::key_dot(&keys[at..end]);
-        if !slots::holds_slotted(tombstone, slots, dot) {
-            next = put_key_dot(out, next, &keys[at..end]);
+    for key in keys.chunks_exact(size) {
+        if !dead.holds(store::key_dot(key)) {
+            next = put_key_dot(out, next, key);
         }
-        at = end;
     }
-}
-
-// Puts the line at the front of keys at the front of out.
-fn put_line(
-    n: usize,
-    keys: &[u8],
-    tombstone: &[u8],
-    slots: &slots::Slots,
-    line: ListedLine,
-    out: &mut [u8],
-)
-    requires { CanPutLine n keys.now tombstone.now slots.now line (length out.old) }
-    ensures { out.new ≡ put_at out.old 0 (line_bytes (line_of n keys.now (dots_of tombstone.now) line)) }
-{
-    let from = n + keys::PREFIX_FIXED;
-    let len = line.len;
-    let to = from + len;
-    let end = line.end;
-    let next = put_head(out, &keys[from..to], line.count);
-    if line.all {
-        put_all_dots(n, len, &keys[..end], &mut out[next..]);
-        return;
-    }
-    put_dots(n, len, &keys[..end], tombstone, slots, &mut out[next..]);
-}
-
-// The same, where a dot of it is listed. Returns how many lines that is.
-fn put_listed(
-    n: usize,
-    keys: &[u8],
-    tombstone: &[u8],
-    slots: &slots::Slots,
-    line: ListedLine,
-    out: &mut [u8],
-) -> usize
-    requires { CanPutListed n keys.now tombstone.now slots.now line (length out.old) }
-    ensures { ListedPut (lines_of_line n keys.now (dots_of tombstone.now) line) out.old out.new result }
-{
-    if line.count == 0 {
-        return 0;
-    }
-    put_line(n, keys, tombstone, slots, line, out);
-    1
 }
 
 // What lines put out take: their bytes, how many they are, and whether more follow.
@@ -276,41 +195,72 @@ pub struct LinesPut {
     pub more: bool,
 }
 
-// Puts as many whole lines of the listing of keys as fit at the front of out; the rest keeps its values. A dry run only tells whether more follow.
-fn put_lines(
-    n: usize,
-    keys: &[u8],
-    tombstone: &[u8],
-    slots: &slots::Slots,
-    dry: bool,
-    out: &mut [u8],
-) -> LinesPut
-    requires { CanList n keys.now tombstone.now slots.now }
-    ensures { PutsOrCounts dry (key_lines n keys.now tombstone.now) out.old out.new result }
-{
-    let mut bytes = 0;
-    let mut labels = 0;
-    let mut at = 0;
-    while at < keys.len() {
-        let line = line_at(n, &keys[at..], tombstone, slots);
-        let size = listed_size(line);
-        if out.len() - bytes < size {
-            return LinesPut {
-                bytes,
-                labels,
-                more: true,
-            };
+impl<'a> Listing<'a> {
+    // Puts the line at the front of the keys at the front of out.
+    fn put_line(self, line: ListedLine, out: &mut [u8])
+        requires { CanPutLine self.n self.keys.now (dots_of self.dead.dots.now) line (length out.old) }
+        ensures { out.new ≡ put_at out.old 0 (line_bytes (line_of self.entry.n self.entry.keys.now (dots_of self.entry.dead.dots.now) line)) }
+    {
+        let n = self.n;
+        let from = n + keys::PREFIX_FIXED;
+        let len = line.len;
+        let to = from + len;
+        let end = line.end;
+        let next = put_head(out, &self.keys[from..to], line.count);
+        if line.all {
+            put_all_dots(n, len, &self.keys[..end], &mut out[next..]);
+            return;
         }
-        if !dry {
-            labels += put_listed(n, &keys[at..], tombstone, slots, line, &mut out[bytes..]);
-        }
-        bytes += size;
-        at += line.end;
+        put_dots(n, len, &self.keys[..end], self.dead, &mut out[next..]);
     }
-    LinesPut {
-        bytes,
-        labels,
-        more: false,
+
+    // The same, where a dot of it is listed. Returns how many lines that is.
+    fn put_listed(self, line: ListedLine, out: &mut [u8]) -> usize
+        requires { CanPutListed self.n self.keys.now (dots_of self.dead.dots.now) line (length out.old) }
+        ensures { ListedPut (lines_of_line self.entry.n self.entry.keys.now (dots_of self.entry.dead.dots.now) line) out.old out.new result }
+    {
+        if line.count == 0 {
+            return 0;
+        }
+        self.put_line(line, out);
+        1
+    }
+
+    // Puts as many whole lines of the listing of the keys as fit at the front of out; the rest keeps its values. A dry run only tells whether more follow.
+    // `dry` stays a flag: as an Option the output would be borrowed out of it anew for each line, and two functions would be twins.
+    fn put_lines(self, dry: bool, out: &mut [u8]) -> LinesPut
+        requires { CanList self.n self.keys.now }
+        ensures { PutsOrCounts dry (key_lines self.entry.n self.entry.keys.now self.entry.dead.dots.now) out.old out.new result }
+    {
+        let mut bytes = 0;
+        let mut labels = 0;
+        let mut at = 0;
+        // `at` is no index: a line says where it ends.
+        while at < self.keys.len() {
+            let rest = Listing {
+                keys: &self.keys[at..],
+                ..self
+            };
+            let line = rest.first_line();
+            let size = line.listed_size();
+            if out.len() - bytes < size {
+                return LinesPut {
+                    bytes,
+                    labels,
+                    more: true,
+                };
+            }
+            if !dry {
+                labels += rest.put_listed(line, &mut out[bytes..]);
+            }
+            bytes += size;
+            at += line.end;
+        }
+        LinesPut {
+            bytes,
+            labels,
+            more: false,
+        }
     }
 }
 
@@ -318,16 +268,16 @@ fn put_lines(
 pub fn put_wanted(
     n: usize,
     keys: &[u8],
-    tombstone: &[u8],
-    slots: &slots::Slots,
+    dead: slots::SlottedDots<'_>,
     all: bool,
     out: &mut [u8],
 ) -> LinesPut
-    requires { CanList n keys.now tombstone.now slots.now }
-    ensures { PutsWanted all (key_lines n keys.now tombstone.now) out.old out.new result }
+    requires { CanList n keys.now }
+    ensures { PutsWanted all (key_lines n keys.now dead.entry.dots.now) out.old out.new result }
 {
+    let listed = Listing { n, keys, dead };
     if all & (out.len() < keys.len()) {
-        let counted = put_lines(n, keys, tombstone, slots, true, out);
+        let counted = listed.put_lines(true, out);
         if counted.more {
             return LinesPut {
                 bytes: 0,
@@ -336,5 +286,5 @@ pub fn put_wanted(
             };
         }
     }
-    put_lines(n, keys, tombstone, slots, false, out)
+    listed.put_lines(false, out)
 }

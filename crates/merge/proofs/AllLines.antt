@@ -9,6 +9,7 @@ use lib.Dec.{ltb}
 use lib.ListN.{length, take, drop, length-append, length-take, length-drop}
 use lib.Seq.{drop-drop}
 use borrow.Author.Tests.{lt-ltb}
+use Rattle.std.specs.Prelude.{Some, None, Option}
 use Rattle.wire.specs.Bytes.{Bytes}
 use Rattle.wire.proofs.Parts.{rest_part, size-part}
 use Rattle.dots.specs.declared.Dot.{Dot}
@@ -26,7 +27,6 @@ use Rattle.listing.proofs.ListedKeys.{no_entries}
 use Rattle.listing.proofs.Folds.{all-put as lines-put, none-wanted, as_wanted}
 use Rattle.listing.specs.declared.LinesPut.{LinesPut}
 use Rattle.merge.specs.declared.NextLabel.{NextLabel}
-use Rattle.merge.specs.declared.Run.{Run}
 use Rattle.merge.specs.Sides.{Sides, merged_key_lines, SameSet}
 use Rattle.merge.specs.Labels.{SameLabel, IsNext, ComesNext}
 use Rattle.merge.specs.Kept.{put_unless}
@@ -103,153 +103,148 @@ module _ (n : ℕ) (s : Sides) (dry : Bool) (a b o out : Bytes) (bytes labels i 
   pub few-labels : labels ≤ bytes
   few-labels = omega (arith, w.bytes_are, w.labels_are, few-lines w.done)
 
-  module _ (next : NextLabel) (read : ComesNext n (take (length a - i) (drop i a)) (take (length b - j) (drop j b)) next) where
-    comes : ComesNext n (drop i a) (drop j b) next
-    comes =
-        subst (λ (x : Bytes). ComesNext n x (drop j b) next) (rest_part a i)
-        (subst (λ (y : Bytes). ComesNext n (take (length a - i) (drop i a)) y next) (rest_part b j) read)
+  abbrev Comes : Option NextLabel → Type 0
+  Comes r = ComesNext n (take (length a - i) (drop i a)) (take (length b - j) (drop j b)) r
+
+  comes : (r : Option NextLabel) → Comes r → ComesNext n (drop i a) (drop j b) r
+  comes r read =
+      subst (λ (x : Bytes). ComesNext n x (drop j b) r) (rest_part a i)
+      (subst (λ (y : Bytes). ComesNext n (take (length a - i) (drop i a)) y r) (rest_part b j) read)
+
+  -- the end of both
+  all_done : Comes None → merged_key_lines n s a b ≡ w.done
+  unfolding lines_of
+  all_done read =
+      let e = comes None read in
+      let k = w.first-within in
+      let l = w.second-within in
+      let first : length a ≤ i = omega (arith, length-drop i a, e.0) in
+      let second : length b ≤ j = omega (arith, length-drop j b, e.1) in
+      let none : rest_lines ≡ [] =
+      ap lines_of
+      (ap₂ (merged_from (row_clock window_width) s.words s.words' (dots_of s.tombstone) (dots_of s.tombstone')) (no_entries n a i first) (no_entries n b j second)
+      ∙ merged-none (row_clock window_width) s.words s.words' (dots_of s.tombstone) (dots_of s.tombstone')) in
+      w.whole ∙ ap (λ (ls : List Line). w.done ++ ls) none ∙ append-nil w.done
+
+  pub all-merged : Comes None → Merges n dry s a b o out (record { bytes = bytes; labels = labels; more = false })
+  all-merged read = let all = all_done read in record { bytes_are = rw all w.bytes_are; labels_are = rw all w.labels_are; no_more = refl; out-is = rw all w.out-is }
+
+  -- a label comes next
+  module _ (next : NextLabel) (read : Comes (Some next)) where
+    is : IsNext n (drop i a) (drop j b) next
+    is = comes (Some next) read
 
     pub to-within : i + next.first ≤ length a
-    to-within = let h = comes.first-within in let k = w.first-within in omega (arith, length-drop i a)
+    to-within = let h = is.first-within in let k = w.first-within in omega (arith, length-drop i a)
 
     pub end-within : j + next.second ≤ length b
-    end-within = let h = comes.second-within in let k = w.second-within in omega (arith, length-drop j b)
+    end-within = let h = is.second-within in let k = w.second-within in omega (arith, length-drop j b)
 
-    -- the end of both
-    all_done : next.len ≡ 0 → merged_key_lines n s a b ≡ w.done
-    unfolding lines_of
-    all_done z =
-        let e = comes.at-end z in
-        let k = w.first-within in
-        let l = w.second-within in
-        let first : length a ≤ i = omega (arith, length-drop i a, e.0) in
-        let second : length b ≤ j = omega (arith, length-drop j b, e.1) in
-        let none : rest_lines ≡ [] =
-        ap lines_of
-        (ap₂ (merged_from (row_clock window_width) s.words s.words' (dots_of s.tombstone) (dots_of s.tombstone')) (no_entries n a i first) (no_entries n b j second)
-        ∙ merged-none (row_clock window_width) s.words s.words' (dots_of s.tombstone) (dots_of s.tombstone')) in
-        w.whole ∙ ap (λ (ls : List Line). w.done ++ ls) none ∙ append-nil w.done
+    -- its keys, the parts `&a[i..to]` and `&b[j..end]`
+    abbrev first_keys : Bytes
+    first_keys = take (i + next.first - i) (drop i a)
 
-    -- a label comes next
-    module _ (some : next.len ≡ 0 → ⊥) where
-      is : IsNext n (drop i a) (drop j b) next
-      is = comes.is-next some
+    abbrev second_keys : Bytes
+    second_keys = take (j + next.second - j) (drop j b)
 
-      -- its keys, the parts `&a[i..to]` and `&b[j..end]`
-      abbrev first_keys : Bytes
-      first_keys = take (i + next.first - i) (drop i a)
+    abbrev lines : List Line
+    lines = merged_key_lines n s first_keys second_keys
 
-      abbrev second_keys : Bytes
-      second_keys = take (j + next.second - j) (drop j b)
+    first_eq : first_keys ≡ take next.first (drop i a)
+    first_eq = size-part a i next.first
 
-      abbrev lines : List Line
-      lines = merged_key_lines n s first_keys second_keys
+    second_eq : second_keys ≡ take next.second (drop j b)
+    second_eq = size-part b j next.second
 
-      first_eq : first_keys ≡ take next.first (drop i a)
-      first_eq = size-part a i next.first
+    label-keys : SameLabel n next.len first_keys second_keys
+    label-keys =
+        subst (λ (x : Bytes). SameLabel n next.len x second_keys) (sym first_eq)
+        (subst (λ (y : Bytes). SameLabel n next.len (take next.first (drop i a)) y) (sym second_eq) is.label-keys)
 
-      second_eq : second_keys ≡ take next.second (drop j b)
-      second_eq = size-part b j next.second
+    rests : SameSet n (drop (i + next.first) a) (drop (j + next.second) b)
+    rests =
+        subst (λ (x : Bytes). SameSet n x (drop (j + next.second) b)) (drop-drop next.first i a)
+        (subst (λ (y : Bytes). SameSet n (drop next.first (drop i a)) y) (drop-drop next.second j b) is.rests)
 
-      label-keys : SameLabel n next.len first_keys second_keys
-      label-keys =
-          subst (λ (x : Bytes). SameLabel n next.len x second_keys) (sym first_eq)
-          (subst (λ (y : Bytes). SameLabel n next.len (take next.first (drop i a)) y) (sym second_eq) is.label-keys)
+    lines_next : rest_lines ≡ lines ++ merged_key_lines n s (drop (i + next.first) a) (drop (j + next.second) b)
+    lines_next =
+        is.lines s
+        ∙ ap₂ ◌++◌ (ap₂ (merged_key_lines n s) (sym first_eq) (sym second_eq)) (ap₂ (merged_key_lines n s) (drop-drop next.first i a) (drop-drop next.second j b))
 
-      rests : SameSet n (drop (i + next.first) a) (drop (j + next.second) b)
-      rests =
-          subst (λ (x : Bytes). SameSet n x (drop (j + next.second) b)) (drop-drop next.first i a)
-          (subst (λ (y : Bytes). SameSet n (drop next.first (drop i a)) y) (drop-drop next.second j b) is.rests)
+    pub part_bytes : bytes + length (listing_bytes lines) ≤ length (listing_bytes (merged_key_lines n s a b))
+    part_bytes =
+        let more : List Line = merged_key_lines n s (drop (i + next.first) a) (drop (j + next.second) b) in
+        omega (arith, whole-bytes, ap (λ (ls : List Line). length (listing_bytes ls)) lines_next, ap length (listing-append lines more), length-append (listing_bytes lines) (listing_bytes more))
 
-      lines_next : rest_lines ≡ lines ++ merged_key_lines n s (drop (i + next.first) a) (drop (j + next.second) b)
-      lines_next =
-          is.lines s
-          ∙ ap₂ ◌++◌ (ap₂ (merged_key_lines n s) (sym first_eq) (sym second_eq)) (ap₂ (merged_key_lines n s) (drop-drop next.first i a) (drop-drop next.second j b))
+    one_label : length lines ≡ cond (ltb 0 (length (listing_bytes lines))) 1 0
+    one_label =
+        let k = label-keys in
+        rw (label-lines n next.len s first_keys second_keys k) (one_line k.label (merged_dots n s first_keys second_keys))
 
-      pub part_bytes : bytes + length (listing_bytes lines) ≤ length (listing_bytes (merged_key_lines n s a b))
-      part_bytes =
-          let more : List Line = merged_key_lines n s (drop (i + next.first) a) (drop (j + next.second) b) in
-          omega (arith, whole-bytes, ap (λ (ls : List Line). length (listing_bytes ls)) lines_next, ap length (listing-append lines more), length-append (listing_bytes lines) (listing_bytes more))
+    pub can_put : Mergeable n a b → (dry ≡ false → length (listing_bytes (merged_key_lines n s a b)) ≤ length o)
+        → CanPut (record { n = n; len = next.len; at = bytes; dry = dry }) s first_keys second_keys (length out)
+    can_put m room = record {
+      short-name = m.short-name;
+      label-keys = label-keys;
+      first_short = let h = m.first_short in rw (length-take, length-drop) (omega arith);
+      second_short = let h = m.second_short in rw (length-take, length-drop) (omega arith);
+      place-low = let h = m.first_short in let k = m.second_short in omega (arith, part_bytes, lines-short n s a b m.same_set);
+      has_room = λ f. omega (arith, part_bytes, room f, w.same_size);
+    }
 
-      one_label : length lines ≡ cond (ltb 0 (length (listing_bytes lines))) 1 0
-      one_label =
-          let k = label-keys in
-          rw (label-lines n next.len s first_keys second_keys k) (one_line k.label (merged_dots n s first_keys second_keys))
+    pub lines-on : (size : ℕ) (out' : Bytes) → size ≡ length (listing_bytes lines) → out' ≡ put_unless dry out bytes (listing_bytes lines)
+        → (dry ≡ false → length (listing_bytes (merged_key_lines n s a b)) ≤ length o) → (labels' : ℕ) → labels' ≡ labels + cond (ltb 0 size) 1 0
+        → LinesLeft n s dry a b o out' (bytes + size) labels' (i + next.first) (j + next.second)
+    lines-on size out' e put room labels' q = record {
+      first-within = to-within;
+      second-within = end-within;
+      left = rests;
+      done = w.done ++ lines;
+      whole =
+          w.whole ∙ ap (λ (ls : List Line). w.done ++ ls) lines_next
+          ∙ sym (append_assoc w.done lines (merged_key_lines n s (drop (i + next.first) a) (drop (j + next.second) b)));
+      bytes_are = omega (arith, w.bytes_are, ap length (listing-append w.done lines), length-append (listing_bytes w.done) (listing_bytes lines));
+      labels_are = q ∙ ap₂ ◌+◌ w.labels_are (ap (λ (z : ℕ). cond (ltb 0 z) 1 0) e ∙ sym one_label) ∙ sym (length-append w.done lines);
+      out-is =
+          unless_next dry o out out' (listing_bytes w.done) (listing_bytes lines) 0 bytes w.out-is (omega (arith, w.bytes_are)) put (λ f. omega (arith, part_bytes, room f))
+          ∙ ap (put_unless dry o 0) (sym (listing-append w.done lines));
+      same_size = ap length put ∙ length_unless dry out (listing_bytes lines) bytes (λ f. omega (arith, part_bytes, room f, w.same_size)) ∙ w.same_size;
+    }
 
-      pub can_put : (split : ℕ) → Mergeable n a b → (dry ≡ false → length (listing_bytes (merged_key_lines n s a b)) ≤ length o)
-          → CanPut (record { n = n; len = next.len; split = split; at = bytes; dry = dry }) s first_keys second_keys (length out)
-      can_put split m room = record {
-        short-name = m.short-name;
-        label-keys = label-keys;
-        first_short = let h = m.first_short in rw (length-take, length-drop) (omega arith);
-        second_short = let h = m.second_short in rw (length-take, length-drop) (omega arith);
-        place-low = let h = m.first_short in let k = m.second_short in omega (arith, part_bytes, lines-short n s a b m.same_set);
-        has_room = λ f. omega (arith, part_bytes, room f, w.same_size);
-      }
-
-      pub lines-on : (size : ℕ) (out' : Bytes) → size ≡ length (listing_bytes lines) → out' ≡ put_unless dry out bytes (listing_bytes lines)
-          → (dry ≡ false → length (listing_bytes (merged_key_lines n s a b)) ≤ length o) → (labels' : ℕ) → labels' ≡ labels + cond (ltb 0 size) 1 0
-          → LinesLeft n s dry a b o out' (bytes + size) labels' (i + next.first) (j + next.second)
-      lines-on size out' e put room labels' q = record {
-        first-within = to-within;
-        second-within = end-within;
-        left = rests;
-        done = w.done ++ lines;
-        whole =
-            w.whole ∙ ap (λ (ls : List Line). w.done ++ ls) lines_next
-            ∙ sym (append_assoc w.done lines (merged_key_lines n s (drop (i + next.first) a) (drop (j + next.second) b)));
-        bytes_are = omega (arith, w.bytes_are, ap length (listing-append w.done lines), length-append (listing_bytes w.done) (listing_bytes lines));
-        labels_are = q ∙ ap₂ ◌+◌ w.labels_are (ap (λ (z : ℕ). cond (ltb 0 z) 1 0) e ∙ sym one_label) ∙ sym (length-append w.done lines);
-        out-is =
-            unless_next dry o out out' (listing_bytes w.done) (listing_bytes lines) 0 bytes w.out-is (omega (arith, w.bytes_are)) put (λ f. omega (arith, part_bytes, room f))
-            ∙ ap (put_unless dry o 0) (sym (listing-append w.done lines));
-        same_size = ap length put ∙ length_unless dry out (listing_bytes lines) bytes (λ f. omega (arith, part_bytes, room f, w.same_size)) ∙ w.same_size;
-      }
-
-      pub fewer-left : length a - (i + next.first) + (length b - (j + next.second)) < length a - i + (length b - j)
-      fewer-left = let p = is.some in omega (arith, to-within, end-within)
-
-module _ (run : Run) (s : Sides) (a b o out : Bytes) (bytes labels i j : ℕ) (w : LinesLeft run.n s run.dry a b o out bytes labels i j) where
-  pub all-merged : (next : NextLabel) → ComesNext run.n (take (length a - i) (drop i a)) (take (length b - j) (drop j b)) next → next.len ≡ 0
-      → Merges run s a b o out (record { bytes = bytes; labels = labels; more = false })
-  all-merged next read z =
-      let all = all_done run.n s run.dry a b o out bytes labels i j w next read z in
-      record { bytes_are = rw all w.bytes_are; labels_are = rw all w.labels_are; no_more = refl; out-is = rw all w.out-is }
+    pub fewer-left : length a - (i + next.first) + (length b - (j + next.second)) < length a - i + (length b - j)
+    fewer-left = let p = is.some in omega (arith, to-within, end-within)
 
 -- ---- all of them or none
 
-module _ (run : Run) (s : Sides) (a b out : Bytes) (m : Mergeable run.n a b) where
+module _ (n : ℕ) (s : Sides) (a b out : Bytes) (m : Mergeable n a b) where
   abbrev all_lines : List Line
-  all_lines = merged_key_lines run.n s a b
+  all_lines = merged_key_lines n s a b
 
   -- with room for the keys of both, or as counted
-  pub roomy : length a + length b ≤ length out → CanMerge run s a b (length out)
-  roomy h = record { keys = m; has_room = λ f. omega (arith, lines-short run.n s a b m.same_set) }
+  pub roomy : (dry : Bool) → length a + length b ≤ length out → CanMerge n dry s a b (length out)
+  roomy dry h = record { keys = m; has_room = λ f. omega (arith, lines-short n s a b m.same_set) }
 
-  module _ (wet : run.dry ≡ false) (out' : Bytes) (r : LinesPut) (done : Merges run s a b out out' r) where
-    pub all-put : length (listing_bytes all_lines) ≤ length out → PutsAll run.n s a b out out' r
+  module _ (out' : Bytes) (r : LinesPut) (done : Merges n false s a b out out' r) where
+    pub all-put : length (listing_bytes all_lines) ≤ length out → PutsAll n s a b out out' r
     all-put h =
-        let p = lines-put all_lines out out' r.bytes r.labels done.bytes_are done.labels_are (omega (arith, done.bytes_are)) (done.out-is ∙ rw wet) in
+        let p = lines-put all_lines out out' r.bytes r.labels done.bytes_are done.labels_are (omega (arith, done.bytes_are)) done.out-is in
         as_wanted all_lines out true out' r (inr h) (record { bytes_are = p.bytes_are; labels_are = p.labels_are; more-is = done.no_more ∙ p.more-is; out-is = p.out-is })
 
   -- a dry run before it
-  abbrev dry_run : Run
-  dry_run = record { n = run.n; split = run.split; dry = true }
-
-  pub can_count : (room : ℕ) → CanMerge dry_run s a b room
+  pub can_count : (room : ℕ) → CanMerge n true s a b room
   can_count room = record { keys = m; has_room = λ f. absurd (true≢false f) }
 
-  module _ (same : Bytes) (r : LinesPut) (counted : Merges dry_run s a b out same r) where
-    pub none-put : length same < r.bytes → PutsAll run.n s a b out same (record { bytes = 0; labels = 0; more = true })
+  module _ (same : Bytes) (r : LinesPut) (counted : Merges n true s a b out same r) where
+    pub none-put : length same < r.bytes → PutsAll n s a b out same (record { bytes = 0; labels = 0; more = true })
     none-put h =
         let short : length out < length (listing_bytes all_lines) = omega (arith, ap length counted.out-is, counted.bytes_are) in
-        subst (λ (x : Bytes). PutsAll run.n s a b out x (record { bytes = 0; labels = 0; more = true })) (sym counted.out-is) (none-wanted all_lines out true refl short)
+        subst (λ (x : Bytes). PutsAll n s a b out x (record { bytes = 0; labels = 0; more = true })) (sym counted.out-is) (none-wanted all_lines out true refl short)
 
     module _ (h : r.bytes ≤ length same) where
-      pub fits : CanMerge run s a b (length same)
+      pub fits : CanMerge n false s a b (length same)
       fits = record { keys = m; has_room = λ f. omega (arith, counted.bytes_are) }
 
-      pub then-put : run.dry ≡ false → (out' : Bytes) (r' : LinesPut) → Merges run s a b same out' r' → PutsAll run.n s a b out out' r'
-      then-put wet out' r' done =
+      pub then-put : (out' : Bytes) (r' : LinesPut) → Merges n false s a b same out' r' → PutsAll n s a b out out' r'
+      then-put out' r' done =
           let back = counted.out-is in
-          all-put wet out' r' (subst (λ (x : Bytes). Merges run s a b x out' r') back done) (omega (arith, counted.bytes_are, ap length back))
+          all-put out' r' (subst (λ (x : Bytes). Merges n false s a b x out' r') back done) (omega (arith, counted.bytes_are, ap length back))

@@ -18,7 +18,7 @@ use Rattle.dots.specs.Wire.{dots_of, dot_size}
 use Rattle.dots.proofs.Orders.{dots as dots_order}
 use Rattle.contexts.proofs.Places.{dots-around}
 use Rattle.slots.specs.Slots.{Slotted}
-use Rattle.merge.specs.Kept.{sides_of, EndToEnd, TwoTombstones}
+use Rattle.merge.specs.Kept.{sides_of, EndToEnd}
 
 -- fewer dots
 fewer_slotted : (ds es : List Dot) (slots : Bytes) → ((d : Dot) → d ∈ ds → d ∈ es) → Slotted es slots → Slotted ds slots
@@ -27,15 +27,18 @@ fewer_slotted ds es slots among k = record {
   each_set = λ d m. k.each_set d (holds (member compare_dots d es) (member-complete compare_dots dots_order es (among d (member-sound compare_dots dots_order ds (pass m)))));
 }
 
--- two tombstones whose slots are set together
-pub two_tombstones : (dead : Bytes) (split : ℕ) (slots : Bytes) → EndToEnd dead split → Slotted (dots_of dead) slots → TwoTombstones dead split slots
-two_tombstones dead split slots e k =
+-- the slots of two tombstones that are set together
+pub record BothSlotted (dead dead' : Bytes) (slots : Bytes) : Type 0 where
+  pub first_slotted : Slotted (dots_of dead) slots
+  pub second_slotted : Slotted (dots_of dead') slots
+
+pub both_slotted : (dead : Bytes) (split : ℕ) (slots : Bytes) → EndToEnd dead split → Slotted (dots_of dead) slots → BothSlotted (take split dead) (drop split dead) slots
+both_slotted dead split slots e k =
     let ds : List Dot = dots_of (take split dead) in
     let es : List Dot = dots_of (drop split dead) in
     let w = e.within in
     let around : dots_of dead ≡ ds ++ es = rw e.splits (dots-around dead e.count (omega (arith, e.splits))) in
     record {
-      stand = e;
       first_slotted = fewer_slotted ds (dots_of dead) slots (λ d m. subst (λ (x : List Dot). d ∈ x) (sym around) (Memᴰ.append_left es m)) k;
       second_slotted = fewer_slotted es (dots_of dead) slots (λ d m. subst (λ (x : List Dot). d ∈ x) (sym around) (Memᴰ.append_right ds m)) k;
     }

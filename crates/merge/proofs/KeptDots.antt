@@ -9,13 +9,13 @@ use native.Mathlib.Omega.{arith}
 use lib.ListN.{length, take, drop, length-append, length-drop}
 use lib.Seq.{take_at, drop_at, drop-drop}
 use borrow.Author.Tests.{leb-true, lt-ltb, le-ltb}
+use Rattle.std.specs.Prelude.{Option, Some, None}
 use Rattle.wire.specs.Lists.{cons_if, all, Ascending}
 use Rattle.wire.specs.Bytes.{Bytes}
 use Rattle.wire.proofs.Tests.{both}
 use Rattle.wire.proofs.Parts.{rest_part}
 use Rattle.dots.specs.declared.Dot.{Dot}
 use Rattle.dots.specs.Names.{Name, Label, label_most, label_ok, text_ok}
-use Rattle.dots.specs.Dots.{dot_ok}
 use Rattle.dots.specs.Wire.{dots_of, dots_bytes, dot_size}
 use Rattle.dots.specs.Entries.{Entry, entry, entry_dot, compare_entries, Line, line, lines_of}
 use Rattle.dots.proofs.RoundTrip.{length-dots, dots-append}
@@ -38,13 +38,13 @@ use Rattle.merge.specs.declared.NextDot.{NextDot}
 use Rattle.merge.specs.declared.Spot.{Spot}
 use Rattle.merge.specs.Sides.{Sides, merged_keys, merged_key_lines}
 use Rattle.merge.specs.Labels.{LabelKeys, SameLabel}
-use Rattle.merge.specs.Kept.{first_dot, next_of, keeps_next, put_unless}
+use Rattle.merge.specs.Kept.{first_dot, next_in, keeps_next, put_unless}
 use Rattle.merge.specs.Lines.{merged_dots, CanPut}
 use Rattle.merge.proofs.Splits.{OfLabel, merged-label}
 use Rattle.merge.proofs.Sizes.{merged-short}
 use Rattle.merge.proofs.NextLabels.{of_label}
-use Rattle.merge.proofs.Turns.{first_or, merged_dots_from, DotTurn, dot-turn}
-use Rattle.merge.proofs.Puts.{unless_nothing, unless_next, length_unless}
+use Rattle.merge.proofs.Turns.{first-of, merged_dots_from, DotTurn, Turned, dot-turn}
+use Rattle.merge.proofs.Puts.{unless_nothing, unless_next, length_unless, PutIf}
 
 -- ---- the keys of a label
 
@@ -55,11 +55,6 @@ map-append l (d ∷ ds) es = ap (λ (t : List Entry). entry l d ∷ t) (map-appe
 all_of_label : (l : Label) (ds : List Dot) → OfLabel l (map (entry l) ds)
 all_of_label l [] e m = absurd (Memᴰ.not-nil m)
 all_of_label l (d ∷ ds) e m = ⊎_elim (λ q. ap (λ (x : Entry). x.label) q) (all_of_label l ds e) (Memᴰ.cases_cons m)
-
-dots-valid : (l : Label) (ds : List Dot) → all entry_ok (map (entry l) ds) ≡ true → all dot_ok ds ≡ true
-unfolding all entry_ok
-dots-valid l [] v = refl
-dots-valid l (d ∷ ds) v = let ok : dot_ok d ≡ true = search both in rw ok (dots-valid l ds (search both))
 
 module _ (name : Name) (l : Label) where
   abbrev bytes_of : List Dot → Bytes
@@ -83,12 +78,12 @@ module _ (name : Name) (l : Label) where
   no_bytes = refl
 
   -- the first dot
-  first-is : (ds : List Dot) → all entry_ok (map (entry l) ds) ≡ true → first_dot size (bytes_of ds) ≡ first_or ds
+  first-is : (ds : List Dot) → all entry_ok (map (entry l) ds) ≡ true → first_dot size (bytes_of ds) ≡ first-of ds
   unfolding first_dot all
   first-is [] v = rw (lt-ltb (length (bytes_of [])) size (omega (arith, no_bytes)))
   first-is (d ∷ ds) v =
       rw (le-ltb (length (bytes_of (d ∷ ds))) size (omega (arith, length_more d ds)), first-bytes d ds, take_at (entry_key name (entry l d)) (bytes_of ds) size (key-size d))
-      (dot_said name (entry l d) (search both))
+      (ap (λ (x : Dot). Some x) (dot_said name (entry l d) (search both)))
 
   -- past one more, if there is one
   module _ (b : Bool) (d : Dot) (ds : List Dot) where
@@ -260,7 +255,7 @@ module _ (n len : ℕ) (s : Sides) (dry : Bool) (from : ℕ) (a b o out : Bytes)
   pub few-done : length w.done ≤ length (merged_dots n s a b)
   few-done = let more = merged_keys n s (drop i a) (drop j b) in omega (arith, ap length (all-dots more refl), length-append w.done (map entry_dot more))
 
-  pub walk_end : length a ≤ i → length b ≤ j → (count ≡ length (merged_dots n s a b)) × (out ≡ put_unless dry o from (dots_bytes (merged_dots n s a b)))
+  walk_end : length a ≤ i → length b ≤ j → (count ≡ length (merged_dots n s a b)) × (out ≡ put_unless dry o from (dots_bytes (merged_dots n s a b)))
   walk_end h k =
       let none : merged_keys n s (drop i a) (drop j b) ≡ [] =
       ap₂ (merged_from (row_clock window_width) s.words s.words' (dots_of s.tombstone) (dots_of s.tombstone')) (no_entries n a i h) (no_entries n b j k)
@@ -268,29 +263,31 @@ module _ (n len : ℕ) (s : Sides) (dry : Bool) (from : ℕ) (a b o out : Bytes)
       let all : merged_dots n s a b ≡ w.done = all-dots [] none ∙ append-nil w.done in
       rw all (w.counted, w.out-is)
 
+  -- what comes next
+  first-dot : (keys : Bytes) (k : LabelKeys w.name w.label keys) → first_dot key_size keys ≡ first-of k.dots
+  first-dot keys k = ap₂ first_dot (sym size_is) k.written ∙ first-is w.name w.label k.dots k.valid
+
+  abbrev Comes : Option NextDot → Type 0
+  Comes r = r ≡ next_in (first_dot key_size (take (length a - i) (drop i a))) (first_dot key_size (take (length b - j) (drop j b)))
+
+  turned : (r : Option NextDot) → Comes r → Turned w.label s w.first.dots w.second.dots r
+  turned r comes =
+      let is : r ≡ next_in (first-of w.first.dots) (first-of w.second.dots) =
+      comes
+      ∙ ap₂ next_in (ap (first_dot key_size) (rest_part a i) ∙ first-dot (drop i a) w.first) (ap (first_dot key_size) (rest_part b j) ∙ first-dot (drop j b) w.second) in
+      subst (Turned w.label s w.first.dots w.second.dots) (sym is) (dot-turn w.label s w.first.dots w.second.dots w.first.ascend w.second.ascend)
+
+  -- no key is left
+  ended : (keys : Bytes) (at : ℕ) (k : LabelKeys w.name w.label (drop at keys)) → k.dots ≡ [] → length keys ≤ at
+  ended keys at k q = omega (arith, ap length (k.written ∙ ap (λ (t : List Dot). store_bytes w.name (map (entry w.label) t)) q), no_bytes w.name w.label, length-drop at keys)
+
+  pub all-walked : Comes None → (count ≡ length (merged_dots n s a b)) × (out ≡ put_unless dry o from (dots_bytes (merged_dots n s a b)))
+  all-walked comes = let t = turned None comes in walk_end (ended a i w.first t.0) (ended b j w.second t.1)
+
   -- a key is left of either
-  module _ (some : length a ≤ i → length b ≤ j → ⊥) (next : NextDot)
-      (comes : next ≡ next_of (first_dot key_size (take (length a - i) (drop i a))) (first_dot key_size (take (length b - j) (drop j b)))) where
-    first-dot : (keys : Bytes) (k : LabelKeys w.name w.label keys) → first_dot key_size keys ≡ first_or k.dots
-    first-dot keys k = ap₂ first_dot (sym size_is) k.written ∙ first-is w.name w.label k.dots k.valid
-
-    next-is : next ≡ next_of (first_or w.first.dots) (first_or w.second.dots)
-    next-is =
-        comes
-        ∙ ap₂ next_of (ap (first_dot key_size) (rest_part a i) ∙ first-dot (drop i a) w.first) (ap (first_dot key_size) (rest_part b j) ∙ first-dot (drop j b) w.second)
-
-    ended : (keys : Bytes) (at : ℕ) (k : LabelKeys w.name w.label (drop at keys)) → length k.dots ≡ 0 → length keys ≤ at
-    ended keys at k z = go k.dots refl z
-      where
-        go : (ds : List Dot) → k.dots ≡ ds → length ds ≡ 0 → length keys ≤ at
-        go [] q z = omega (arith, ap length (k.written ∙ ap (λ (t : List Dot). store_bytes w.name (map (entry w.label) t)) q), no_bytes w.name w.label, length-drop at keys)
-        go (d ∷ ds) q z = absurd (omega arith)
-
+  module _ (next : NextDot) (comes : Comes (Some next)) where
     turn : DotTurn w.label s w.first.dots w.second.dots next
-    turn =
-        subst (DotTurn w.label s w.first.dots w.second.dots) (sym next-is)
-        (dot-turn w.label s w.first.dots w.second.dots w.first.ascend w.second.ascend (dots-valid w.label w.first.dots w.first.valid) (dots-valid w.label w.second.dots w.second.valid)
-        (λ z y. some (ended a i w.first z) (ended b j w.second y)))
+    turn = turned (Some next) comes
 
     -- by the length of a key
     sized-place : (c : Bool) (at : ℕ) → at + cond c key_size 0 ≡ at + cond c (length w.name + length w.label + label_key_fixed) 0
@@ -336,9 +333,9 @@ module _ (n len : ℕ) (s : Sides) (dry : Bool) (from : ℕ) (a b o out : Bytes)
             (sym (keys-entries w.name w.label n w.named (drop i' a) first')) (sym (keys-entries w.name w.label n w.named (drop j' b) second'))
 
         -- with so many dots put
-        go_on : (more : List Dot) (out' : Bytes) (r : ℕ) → merged_keys n s (drop i a) (drop j b) ≡ map (entry w.label) more ++ merged_keys n s (drop i' a) (drop j' b)
-            → r ≡ length more → out' ≡ put_unless dry o from (dots_bytes (w.done ++ more)) → length out' ≡ length o → DotsLeft n len s dry from a b o out' (count + r) i' j'
-        go_on more out' r these e put size = record {
+        go_on : (more : List Dot) (out' : Bytes) (count' : ℕ) → merged_keys n s (drop i a) (drop j b) ≡ map (entry w.label) more ++ merged_keys n s (drop i' a) (drop j' b)
+            → count' ≡ count + length more → out' ≡ put_unless dry o from (dots_bytes (w.done ++ more)) → length out' ≡ length o → DotsLeft n len s dry from a b o out' count' i' j'
+        go_on more out' count' these e put size = record {
           name = w.name;
           named = w.named;
           label = w.label;
@@ -357,20 +354,20 @@ module _ (n len : ℕ) (s : Sides) (dry : Bool) (from : ℕ) (a b o out : Bytes)
           same_size = size;
         }
 
-        pub walk-on : (r : ℕ) (out' : Bytes) → r ≡ length (cons_if k next.dot []) → out' ≡ put_unless dry out (from + dot_size * count) (dots_bytes (cons_if k next.dot []))
-            → (k ≡ true → dry ≡ false → from + dot_size * count + dot_size ≤ length o) → DotsLeft n len s dry from a b o out' (count + r) i' j'
+        pub walk-on : (count' : ℕ) (out' : Bytes) → PutIf k dry next.dot (from + dot_size * count) out out' count count'
+            → (k ≡ true → dry ≡ false → from + dot_size * count + dot_size ≤ length o) → DotsLeft n len s dry from a b o out' count' i' j'
         unfolding dots_bytes
-        walk-on r out' e put room = go k refl e put
+        walk-on count' out' put room = go k refl put.0 put.1
           where
-            go : (c : Bool) → k ≡ c → r ≡ length (cons_if c next.dot []) → out' ≡ put_unless dry out (from + dot_size * count) (dots_bytes (cons_if c next.dot [])) → DotsLeft n len s dry from a b o out' (count + r) i' j'
+            go : (c : Bool) → k ≡ c → count' ≡ count + length (cons_if c next.dot []) → out' ≡ put_unless dry out (from + dot_size * count) (dots_bytes (cons_if c next.dot [])) → DotsLeft n len s dry from a b o out' count' i' j'
             go true t e put =
-                go_on (next.dot ∷ []) out' r (left-turned ∙ ap₂ (λ (c : Bool) (z : List Entry). cons_if c (entry w.label next.dot) z) t left-next) e
+                go_on (next.dot ∷ []) out' count' (left-turned ∙ ap₂ (λ (c : Bool) (z : List Entry). cons_if c (entry w.label next.dot) z) t left-next) e
                 (unless_next dry o out out' (dots_bytes w.done) (dots_bytes (next.dot ∷ [])) from (from + dot_size * count) w.out-is (omega (arith, w.counted, length-dots w.done)) put
                 (λ f. omega (arith, room t f)) ∙ ap (put_unless dry o from) (sym (dots-append w.done (next.dot ∷ []))))
                 (ap length put ∙ length_unless dry out (dots_bytes (next.dot ∷ [])) (from + dot_size * count) (λ f. omega (arith, room t f, length-dots (next.dot ∷ []), w.same_size)) ∙ w.same_size)
             go false t e put =
                 let same : out' ≡ out = put ∙ sym (unless_nothing dry out (from + dot_size * count)) in
-                go_on [] out' r (left-turned ∙ ap₂ (λ (c : Bool) (z : List Entry). cons_if c (entry w.label next.dot) z) t left-next) e
+                go_on [] out' count' (left-turned ∙ ap₂ (λ (c : Bool) (z : List Entry). cons_if c (entry w.label next.dot) z) t left-next) e
                 (same ∙ w.out-is ∙ ap (λ (ds : List Dot). put_unless dry o from (dots_bytes ds)) (sym (append-nil w.done))) (ap length same ∙ w.same_size)
 
 -- ---- room and bounds

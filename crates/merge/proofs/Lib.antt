@@ -1,5 +1,5 @@
 -- Handing: which first key the step hands back. Splits: the merge of two sides, label by label. Sizes: how long it is.
--- Runs, Heads, NextLabels: the label that comes next, and its keys in both stores. Turns: its dots, the lower one first.
+-- Runs, Heads, NextLabels: the label that comes next, and its keys in both stores. DotOrders, Turns: its dots, the lower one first.
 -- Puts, KeptDots, MergedLines, AllLines: dots, a line, all lines put out. BothSides: two tombstones end to end.
 pub mod Handing
 pub mod Splits
@@ -7,6 +7,7 @@ pub mod Sizes
 pub mod Runs
 pub mod Heads
 pub mod NextLabels
+pub mod DotOrders
 pub mod Turns
 pub mod Puts
 pub mod KeptDots

@@ -9,6 +9,7 @@ use native.Mathlib.Omega.{arith}
 use lib.Dec.{compare_is_eq}
 use lib.ListN.{length, take, drop, length-append}
 use lib.Seq.{take_at, take-append_seam, drop-append_seam}
+use Rattle.std.specs.Prelude.{Some, None}
 use Rattle.wire.specs.Lists.{◌∈◌, keep, all, is_lt, Less, Ascending}
 use Rattle.wire.specs.Bytes.{Bytes, big_endian, compare_bytes, starts_with}
 use Rattle.wire.proofs.Tests.{both, holds, pass}
@@ -26,7 +27,7 @@ use Rattle.keys.specs.Entry.{entry_ok, entry_key, suffix}
 use Rattle.keys.proofs.EntryKeys.{entry_key_parts, length_entry_key}
 use Rattle.store.specs.Cut.{end_to_end, store_bytes, keys_of, entries_in}
 use Rattle.store.specs.Place.{length_while, label_start}
-use Rattle.store.proofs.RoundTrip.{label-size, keys-written, store-append}
+use Rattle.store.proofs.RoundTrip.{keys-written, store-append}
 use Rattle.store.proofs.Stretches.{lower, same, keep-front, while_kept, begins_alone, same-front, all_keep}
 use Rattle.replica.specs.RowClock.{row_clock}
 use Rattle.replica.proofs.Walk.{merged_from}
@@ -184,13 +185,8 @@ module _ (n : ℕ) (a b : Bytes) (set : SameSet n a b) where
     heads (inr h) z = h
 
     -- the end of both
-    pub none-next : BothEnd xs ys key → ComesNext n a b (record { len = 0; first = 0; second = 0 })
-    none-next e = record {
-      first-within = omega arith;
-      second-within = omega arith;
-      at-end = λ z. (ap length (sym set.first.written ∙ ap (store_bytes name) e.first-none) ∙ no_length, ap length (sym second-written ∙ ap (store_bytes name) e.second_none) ∙ no_length);
-      is-next = λ z. absurd (z refl);
-    }
+    pub none-next : BothEnd xs ys key → ComesNext n a b None
+    none-next e = (ap length (sym set.first.written ∙ ap (store_bytes name) e.first-none) ∙ no_length, ap length (sym second-written ∙ ap (store_bytes name) e.second_none) ∙ no_length)
 
     module _ (h : Head name xs ys key) where
       abbrev label : Label
@@ -261,28 +257,25 @@ module _ (n : ℕ) (a b : Bytes) (set : SameSet n a b) where
             let p = some-own label ys h.second-higher set.second.ascend name label-ok set.second.valid n named b second-written r.second second_is h.head m refl in
             omega arith
 
-        pub one_next : ComesNext n a b r
+        pub one_next : ComesNext n a b (Some r)
         unfolding rest-stored
         one_next = record {
           first-within = first_fits_lem;
           second-within = second_fits;
-          at-end = λ z. absurd (omega (arith, key-long, (label-size name h.head h.ok).0));
-          is-next = λ z. record {
-            label-keys = record {
-              name = name;
-              named = named;
-              label = label;
-              labelled = label-ok;
-              sized = omega (arith, key-long);
-              first = front-keys label xs h.first-higher set.first.ascend name label-ok set.first.valid n named a set.first.written r.first first-is;
-              second = front-keys label ys h.second-higher set.second.ascend name label-ok set.second.valid n named b second-written r.second second_is;
-            };
-            some = some-keys h.held;
-            rests = record {
-              first = rest-stored label xs h.first-higher set.first.ascend name label-ok set.first.valid n named a set.first.written r.first first-is;
-              second = rest-stored label ys h.second-higher set.second.ascend name label-ok set.second.valid n named b second-written r.second second_is;
-              one_name = refl;
-            };
-            lines = lines_are;
+          label-keys = record {
+            name = name;
+            named = named;
+            label = label;
+            labelled = label-ok;
+            sized = omega (arith, key-long);
+            first = front-keys label xs h.first-higher set.first.ascend name label-ok set.first.valid n named a set.first.written r.first first-is;
+            second = front-keys label ys h.second-higher set.second.ascend name label-ok set.second.valid n named b second-written r.second second_is;
           };
+          some = some-keys h.held;
+          rests = record {
+            first = rest-stored label xs h.first-higher set.first.ascend name label-ok set.first.valid n named a set.first.written r.first first-is;
+            second = rest-stored label ys h.second-higher set.second.ascend name label-ok set.second.valid n named b second-written r.second second_is;
+            one_name = refl;
+          };
+          lines = lines_are;
         }

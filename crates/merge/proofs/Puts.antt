@@ -1,10 +1,11 @@
 -- Bytes put one after the other, unless the run is dry. Assumes nothing.
-use mathlib.Core.Path.{◌≡◌, refl, sym, ◌∙◌}
+use mathlib.Core.Path.{◌≡◌, refl, sym, ap, ◌∙◌}
 use mathlib.Core.Bool.{Bool, true, false}
 use mathlib.Core.List.{[], ◌∷◌, ◌++◌, append-nil}
 use Prim.Native.Nat.{ℕ, ◌+◌, ◌≤◌}
 use native.Mathlib.Nat.{add-zero}
 use lib.ListN.{length, take-append-drop}
+use Rattle.wire.specs.Lists.{cons_if}
 use Rattle.wire.specs.Bytes.{Bytes, put_at}
 use Rattle.wire.proofs.Fields.{put_next}
 use Rattle.dots.specs.declared.Dot.{Dot}
@@ -32,3 +33,16 @@ length_unless false s x at h = length-put s x at (h refl)
 pub one_dot : (d : Dot) → dots_bytes (d ∷ []) ≡ dot_bytes d
 unfolding dots_bytes
 one_dot d = append-nil (dot_bytes d)
+
+-- a dot put if it is kept, and counted
+abbrev pub PutIf : Bool → Bool → Dot → ℕ → Bytes → Bytes → ℕ → ℕ → Type 0
+PutIf kept dry d at out out' count count' = (count' ≡ count + length (cons_if kept d [])) × (out' ≡ put_unless dry out at (dots_bytes (cons_if kept d [])))
+
+pub put_kept : (kept dry : Bool) (d : Dot) (at : ℕ) (out out' : Bytes) (count count' : ℕ) → kept ≡ true → count' ≡ count + 1 → out' ≡ put_unless dry out at (dot_bytes d)
+    → PutIf kept dry d at out out' count count'
+put_kept kept dry d at out out' count count' t e put = rw t (e, put ∙ ap (put_unless dry out at) (sym (one_dot d)))
+
+pub put_not_kept : (kept dry : Bool) (d : Dot) (at : ℕ) (out out' : Bytes) (count count' : ℕ) → kept ≡ false → count' ≡ count → out' ≡ out
+    → PutIf kept dry d at out out' count count'
+unfolding dots_bytes
+put_not_kept kept dry d at out out' count count' f e same = rw f (e ∙ sym (add-zero count), same ∙ unless_nothing dry out at)

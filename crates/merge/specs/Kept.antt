@@ -1,11 +1,10 @@
 -- The dots of a label that two stores hold, one after the other, and which of them are kept.
-use Rattle.std.specs.Prelude.{ℕ, ◌*◌, ◌≤◌, Bool, true, not, cond, ◌&&◌, ◌||◌, List, ◌≡◌, ltb, length, take, drop}
+use Rattle.std.specs.Prelude.{ℕ, ◌*◌, ◌≤◌, Bool, true, false, not, cond, ◌&&◌, ◌||◌, List, Option, Some, None, ◌≡◌, ltb, length, take, drop}
 use Rattle.wire.specs.Lists.{is_lt}
 use Rattle.wire.specs.Bytes.{Bytes, put_at}
 use Rattle.dots.specs.declared.Dot.{Dot}
-use Rattle.dots.specs.Dots.{actor_of, dot_of, compare_dots, ascending_dots}
+use Rattle.dots.specs.Dots.{compare_dots, ascending_dots}
 use Rattle.dots.specs.Wire.{dots_of, dot_size}
-use Rattle.slots.specs.Slots.{Slotted}
 use Rattle.clock.specs.Clock.{sees}
 use Rattle.store.specs.Cut.{key_dot}
 use Rattle.listing.specs.Listing.{is_live}
@@ -14,17 +13,20 @@ use Rattle.merge.specs.Sides.{Sides}
 
 -- ---- the dot that comes next
 
--- comes after all dots
-abbrev pub end_dot : Dot
-end_dot = dot_of (actor_of 255) 0
-
--- the dot of the first of keys of `size` bytes; past them the end
-unfoldable pub first_dot : ℕ → Bytes → Dot
-first_dot size keys = cond (ltb (length keys) size) end_dot (key_dot (take size keys))
+-- the dot of the first of keys of `size` bytes; past them none
+unfoldable pub first_dot : ℕ → Bytes → Option Dot
+first_dot size keys = cond (ltb (length keys) size) None (Some (key_dot (take size keys)))
 
 -- the lower of two, and which stores hold it
 unfoldable pub next_of : Dot → Dot → NextDot
 next_of d e = record { dot = cond (is_lt (compare_dots e d)) e d; first = not (is_lt (compare_dots e d)); second = not (is_lt (compare_dots d e)) }
+
+-- the lower of those that there are
+abbrev pub next_in : Option Dot → Option Dot → Option NextDot
+next_in (Some d) (Some e) = Some (next_of d e)
+next_in (Some d) None = Some (record { dot = d; first = true; second = false })
+next_in None (Some e) = Some (record { dot = e; first = false; second = true })
+next_in None None = None
 
 -- ---- whether it is kept
 
@@ -48,12 +50,6 @@ pub record EndToEnd (dead : Bytes) (split : ℕ) : Type 0 where
   pub within : split ≤ length dead
   pub first-ascends : ascending_dots (dots_of (take split dead)) ≡ true
   pub second-ascends : ascending_dots (dots_of (drop split dead)) ≡ true
-
--- what asking them counts on: the slots of all dots are set too
-pub record TwoTombstones (dead : Bytes) (split : ℕ) (slots : Bytes) : Type 0 where
-  pub stand : EndToEnd dead split
-  pub first_slotted : Slotted (dots_of (take split dead)) slots
-  pub second_slotted : Slotted (dots_of (drop split dead)) slots
 
 -- ---- what is put
 

@@ -1,5 +1,5 @@
 -- The label that comes next in two stores. n is the length of the set's name.
-use Rattle.std.specs.Prelude.{ℕ, ◌+◌, ◌≤◌, ◌<◌, true, List, ◌++◌, map, ◌≡◌, length, take, drop}
+use Rattle.std.specs.Prelude.{ℕ, ◌+◌, ◌≤◌, ◌<◌, true, List, ◌++◌, Option, Some, None, map, ◌≡◌, length, take, drop}
 use Rattle.wire.specs.Lists.{all, Ascending}
 use Rattle.wire.specs.Bytes.{Bytes}
 use Rattle.dots.specs.declared.Dot.{Dot}
@@ -38,6 +38,8 @@ pub record SameLabel (n len : ℕ) (a b : Bytes) : Type 0 where
 
 -- r is the label that comes next: its keys stand at the front of one or both; the lines of both are its line, if a dot of it is kept, and those of the rests
 pub record IsNext (n : ℕ) (a b : Bytes) (r : NextLabel) : Type 0 where
+  pub first-within : r.first ≤ length a
+  pub second-within : r.second ≤ length b
   pub label-keys : SameLabel n r.len (take r.first a) (take r.second b)
   pub some : 0 < r.first + r.second
   pub rests : SameSet n (drop r.first a) (drop r.second b)
@@ -45,8 +47,6 @@ pub record IsNext (n : ℕ) (a b : Bytes) (r : NextLabel) : Type 0 where
       ≡ merged_key_lines n s (take r.first a) (take r.second b) ++ merged_key_lines n s (drop r.first a) (drop r.second b)
 
 -- the same, or the end of both
-pub record ComesNext (n : ℕ) (a b : Bytes) (r : NextLabel) : Type 0 where
-  pub first-within : r.first ≤ length a
-  pub second-within : r.second ≤ length b
-  pub at-end : r.len ≡ 0 → (length a ≡ 0) × (length b ≡ 0)
-  pub is-next : (r.len ≡ 0 → ⊥) → IsNext n a b r
+abbrev pub ComesNext : ℕ → Bytes → Bytes → Option NextLabel → Type 0
+ComesNext n a b (Some r) = IsNext n a b r
+ComesNext n a b None = (length a ≡ 0) × (length b ≡ 0)

@@ -1,5 +1,5 @@
 -- The lines of a merged listing, put out one after the other.
-use Rattle.std.specs.Prelude.{ℕ, ◌+◌, ◌*◌, ◌≤◌, true, false, cond, List, map, ◌≡◌, eqb, length}
+use Rattle.std.specs.Prelude.{ℕ, ◌+◌, ◌*◌, ◌≤◌, Bool, true, false, cond, List, map, ◌≡◌, eqb, length}
 use Rattle.wire.specs.Bytes.{Bytes}
 use Rattle.dots.specs.declared.Dot.{Dot}
 use Rattle.dots.specs.Names.{Label, name_most}
@@ -11,7 +11,6 @@ use Rattle.listing.specs.Listing.{line_fixed, listing_bytes, PutsWanted}
 use Rattle.listing.specs.Lines.{label_of}
 use Rattle.listing.specs.declared.LinesPut.{LinesPut}
 use Rattle.merge.specs.declared.Spot.{Spot}
-use Rattle.merge.specs.declared.Run.{Run}
 use Rattle.merge.specs.Sides.{Sides, merged_keys, merged_key_lines, SameSet}
 use Rattle.merge.specs.Labels.{SameLabel}
 use Rattle.merge.specs.Kept.{put_unless}
@@ -54,10 +53,6 @@ LinePut spot s a b out out' r =
 
 -- ---- all lines
 
--- where the line of a label of so many bytes goes in a run
-abbrev pub spot_in : Run → ℕ → ℕ → Spot
-spot_in run len at = record { n = run.n; len = len; split = run.split; at = at; dry = run.dry }
-
 -- what putting them counts on: stored keys of one set
 pub record Mergeable (n : ℕ) (a b : Bytes) : Type 0 where
   pub short-name : n ≤ name_most
@@ -66,16 +61,16 @@ pub record Mergeable (n : ℕ) (a b : Bytes) : Type 0 where
   pub second_short : length b ≤ store_most
 
 -- and room for the lines, unless the run is dry
-pub record CanMerge (run : Run) (s : Sides) (a b : Bytes) (room : ℕ) : Type 0 where
-  pub keys : Mergeable run.n a b
-  pub has_room : run.dry ≡ false → length (listing_bytes (merged_key_lines run.n s a b)) ≤ room
+pub record CanMerge (n : ℕ) (dry : Bool) (s : Sides) (a b : Bytes) (room : ℕ) : Type 0 where
+  pub keys : Mergeable n a b
+  pub has_room : dry ≡ false → length (listing_bytes (merged_key_lines n s a b)) ≤ room
 
 -- all lines are put at the front of out, which becomes out', or only counted
-pub record Merges (run : Run) (s : Sides) (a b out out' : Bytes) (r : LinesPut) : Type 0 where
-  pub bytes_are : r.bytes ≡ length (listing_bytes (merged_key_lines run.n s a b))
-  pub labels_are : r.labels ≡ length (merged_key_lines run.n s a b)
+pub record Merges (n : ℕ) (dry : Bool) (s : Sides) (a b out out' : Bytes) (r : LinesPut) : Type 0 where
+  pub bytes_are : r.bytes ≡ length (listing_bytes (merged_key_lines n s a b))
+  pub labels_are : r.labels ≡ length (merged_key_lines n s a b)
   pub no_more : r.more ≡ false
-  pub out-is : out' ≡ put_unless run.dry out 0 (listing_bytes (merged_key_lines run.n s a b))
+  pub out-is : out' ≡ put_unless dry out 0 (listing_bytes (merged_key_lines n s a b))
 
 -- all lines are put, or where they do not fit none
 abbrev pub PutsAll : ℕ → Sides → Bytes → Bytes → Bytes → Bytes → LinesPut → Type 0

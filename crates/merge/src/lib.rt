@@ -2,23 +2,23 @@
 
 #![tactic(auto)]
 
-ghost use Rattle.std.specs.Prelude.{◌≡◌, true, false, cond, ◌&&◌, [], ◌+◌, ◌-◌, ◌*◌, ◌^◌, ◌≤◌, ◌<◌, length, take};
-ghost use Rattle.wire.specs.Lists.{cons_if};
+ghost use Rattle.std.specs.Prelude.{◌≡◌, true, false, ◌&&◌, ◌+◌, ◌-◌, ◌*◌, ◌≤◌, length, take};
 ghost use Rattle.wire.specs.Bytes.{starts_with, put_at};
 ghost use Rattle.dots.specs.Names.{name_most, label_most};
-ghost use Rattle.dots.specs.Dots.{ascending_dots};
-ghost use Rattle.dots.specs.Wire.{dots_of, dots_bytes, dot_size};
-ghost use Rattle.slots.specs.Slots.{Slotted};
+ghost use Rattle.dots.specs.Wire.{dots_of, dot_bytes, dot_size};
 ghost use Rattle.clock.specs.Clock.{sees};
 ghost use Rattle.keys.specs.Key.{suffix_size};
 ghost use Rattle.listing.specs.Listing.{is_live};
 ghost use Rattle.store.specs.Cut.{keys_of};
 ghost use Rattle.store.specs.Place.{length_while};
 ghost use Rattle.merge.specs.Step.{Handed};
-ghost use Rattle.merge.specs.Sides.{SameSet};
+ghost use Rattle.merge.specs.Sides.{Sides, SameSet};
 ghost use Rattle.merge.specs.Labels.{LabelStart, ComesNext};
-ghost use Rattle.merge.specs.Kept.{first_dot, next_of, kept_dot, sides_of, keeps_next, EndToEnd, TwoTombstones, put_unless};
-ghost use Rattle.merge.specs.Lines.{CanPut, LabelWithin, label_in, DotsPut, LinePut, Mergeable, CanMerge, Merges, PutsAll, spot_in};
+ghost use Rattle.merge.specs.Kept.{first_dot, next_of, next_in, kept_dot, sides_of, keeps_next, EndToEnd, put_unless};
+ghost use Rattle.merge.specs.Lines.{CanPut, LabelWithin, label_in, DotsPut, LinePut, Mergeable, CanMerge, Merges, PutsAll};
+
+use std::cmp::Ordering;
+use std::marker::Model;
 
 // ---- the step
 
@@ -48,6 +48,7 @@ fn label_run(n: usize, keys: &[u8], start: &[u8]) -> usize
     let len = start.len() - (n + keys::PREFIX_FIXED + 1);
     let size = n + len + keys::LABEL_KEY_FIXED;
     let mut at = 0;
+    // `at` is no index, but the bytes so far, which are what is returned.
     while at < keys.len() {
         if !search::starts_with(start, &keys[at..]) {
             return at;
@@ -65,44 +66,38 @@ struct NextLabel {
     second: usize,
 }
 
-// The label that comes next in what is left of two stores; at the end of both it has no bytes.
-fn next_label<'a>(n: usize, a: &'a [u8], b: &'a [u8]) -> NextLabel
+// The label that comes next in what is left of two stores.
+fn next_label<'a>(n: usize, a: &'a [u8], b: &'a [u8]) -> Option<NextLabel>
     requires { (n ≤ name_most) × SameSet n a.now b.now }
     ensures { ComesNext n a.now b.now result }
 {
     let key = lower_key(n, a, b);
     if key.len() == 0 {
-        return NextLabel {
-            len: 0,
-            first: 0,
-            second: 0,
-        };
+        return None;
     }
     let closed = key.len() - (keys::SUFFIX_SIZE - 1);
-    NextLabel {
+    Some(NextLabel {
         len: key.len() - (n + keys::LABEL_KEY_FIXED),
         first: label_run(n, a, &key[..closed]),
         second: label_run(n, b, &key[..closed]),
-    }
+    })
 }
 
 // ---- the dots of a label
 
-// The dot of the first of a label's keys, which have `size` bytes each; past them one that comes after all dots.
-fn first_dot(size: usize, keys: &[u8]) -> dots::Dot
+// The dot of the first of a label's keys, which have `size` bytes each.
+fn first_dot(size: usize, keys: &[u8]) -> Option<dots::Dot>
     requires { suffix_size - 1 ≤ size }
     ensures { result ≡ first_dot size keys.now }
 {
     if keys.len() < size {
-        return dots::Dot {
-            actor: dots::Actor { number: 255 },
-            counter: dots::Counter { number: 0 },
-        };
+        return None;
     }
-    store::key_dot(&keys[..size])
+    Some(store::key_dot(&keys[..size]))
 }
 
 // The dot that comes next among the keys of a label in two stores, and which of them hold it.
+// Two flags and no enum: each is asked apart from the other, to tell whether its store lists the dot and whether its place goes on.
 #[derive(Clone, Copy)]
 struct NextDot {
     dot: dots::Dot,
@@ -114,138 +109,140 @@ struct NextDot {
 fn lower_dot(d: dots::Dot, e: dots::Dot) -> NextDot
     ensures { result ≡ next_of d e }
 {
-    let second = !dots::dot_lower(d, e);
-    if dots::dot_lower(e, d) {
-        return NextDot {
+    match d.cmp(&e) {
+        Ordering::Less => NextDot {
+            dot: d,
+            first: true,
+            second: false,
+        },
+        Ordering::Equal => NextDot {
+            dot: d,
+            first: true,
+            second: true,
+        },
+        Ordering::Greater => NextDot {
             dot: e,
             first: false,
-            second,
-        };
+            second: true,
+        },
     }
-    NextDot {
-        dot: d,
-        first: true,
-        second,
+}
+
+// The dot that comes next in what is left of a label's keys in two stores.
+fn next_dot(size: usize, a: &[u8], b: &[u8]) -> Option<NextDot>
+    requires { suffix_size - 1 ≤ size }
+    ensures { result ≡ next_in (first_dot size a.now) (first_dot size b.now) }
+{
+    match (first_dot(size, a), first_dot(size, b)) {
+        (Some(d), Some(e)) => Some(lower_dot(d, e)),
+        (Some(dot), None) => Some(NextDot {
+            dot,
+            first: true,
+            second: false,
+        }),
+        (None, Some(dot)) => Some(NextDot {
+            dot,
+            first: false,
+            second: true,
+        }),
+        (None, None) => None,
     }
+}
+
+// Two sides of a merge: the tombstone and the clock of each. One table has the slots of both tombstones' dots.
+#[derive(Drop)]
+struct TwoSides<'a> {
+    first: slots::SlottedDots<'a>,
+    here: &'a clock::Words,
+    second: slots::SlottedDots<'a>,
+    there: &'a clock::Words,
+}
+
+impl<'a> Model for TwoSides<'a> {
+    ghost Value = { Sides };
+
+    ghost view = { λ s. record { tombstone = s.first.dots.now; words = s.here.now; tombstone' = s.second.dots.now; words' = s.there.now } };
 }
 
 // Whether a dot is listed, where it is held or not.
-fn is_listed(held: bool, tombstone: &[u8], slots: &slots::Slots, dot: dots::Dot) -> bool
-    requires { (ascending_dots (dots_of tombstone.now) ≡ true) × Slotted (dots_of tombstone.now) slots.now }
-    ensures { result ≡ (held && is_live (dots_of tombstone.now) dot) }
+fn is_listed(held: bool, dead: slots::SlottedDots<'_>, dot: dots::Dot) -> bool
+    ensures { result ≡ (held && is_live (dots_of dead.entry.dots.now) dot) }
 {
-    if !held {
-        return false;
-    }
-    !slots::holds_slotted(tombstone, slots, dot)
+    held && !dead.holds(dot)
 }
 
-// Whether a dot is kept that each of two lists or not. A clock is asked only where just one lists it.
-fn kept_dot(
-    first: bool,
-    second: bool,
-    here: &clock::Words,
-    there: &clock::Words,
-    dot: dots::Dot,
-) -> bool
-    ensures { result ≡ kept_dot first second (sees here.now dot) (sees there.now dot) }
-{
-    if first & second {
-        return true;
+impl<'a> TwoSides<'a> {
+    // Whether a dot is kept that each of two lists or not. A clock is asked only where just one lists it.
+    fn kept(&self, first: bool, second: bool, dot: dots::Dot) -> bool
+        ensures { result ≡ kept_dot first second (sees self.now.words dot) (sees self.now.words' dot) }
+    {
+        if first & second {
+            return true;
+        }
+        if first {
+            return !clock::sees(self.there, dot);
+        }
+        if second {
+            return !clock::sees(self.here, dot);
+        }
+        false
     }
-    if first {
-        return !clock::sees(there, dot);
+
+    // The same of the dot that comes next, by the two tombstones.
+    fn keeps(&self, next: NextDot) -> bool
+        ensures { result ≡ keeps_next self.now next }
+    {
+        let dot = next.dot;
+        let first = is_listed(next.first, self.first, dot);
+        let second = is_listed(next.second, self.second, dot);
+        self.kept(first, second, dot)
     }
-    if second {
-        return !clock::sees(here, dot);
-    }
-    false
 }
 
-// The same of the dot that comes next, by two tombstones end to end, the first of `split` bytes.
-fn keeps(
-    next: NextDot,
-    dead: &[u8],
-    split: usize,
-    slots: &slots::Slots,
-    here: &clock::Words,
-    there: &clock::Words,
-) -> bool
-    requires { TwoTombstones dead.now split slots.now }
-    ensures { result ≡ keeps_next (sides_of dead.now split here.now there.now) next }
+// Puts a dot at a place, unless the run is dry.
+fn put_dot(dry: bool, out: &mut [u8], at: usize, dot: dots::Dot)
+    requires { dry ≡ false → at + dot_size ≤ length out.old }
+    ensures { out.new ≡ put_unless dry out.old at (dot_bytes dot) }
 {
-    let dot = next.dot;
-    let first = is_listed(next.first, &dead[..split], slots, dot);
-    let second = is_listed(next.second, &dead[split..], slots, dot);
-    kept_dot(first, second, here, there, dot)
-}
-
-// A sum, with more added to it if a test holds.
-fn add_if(test: bool, more: usize, sum: usize) -> usize
-    requires { (more < 2 ^ 32) × (sum < 2 ^ 32) }
-    ensures { result ≡ sum + cond test more 0 }
-{
-    if test { sum + more } else { sum }
-}
-
-// Puts a dot at a place if it is kept, unless the run is dry. Returns how many dots that is.
-fn put_dot(kept: bool, dry: bool, out: &mut [u8], at: usize, dot: dots::Dot) -> usize
-    requires { kept ≡ true → dry ≡ false → at + dot_size ≤ length out.old }
-    ensures { (result ≡ length (cons_if kept dot [])) × (out.new ≡ put_unless dry out.old at (dots_bytes (cons_if kept dot []))) }
-{
-    if !kept {
-        return 0;
+    if !dry {
+        let bytes = dots::dot_bytes(dot);
+        moves::put(out, at, &bytes);
     }
-    if dry {
-        return 1;
-    }
-    let bytes = dots::dot_bytes(dot);
-    moves::put(out, at, &bytes);
-    1
 }
 
 // ---- its line
 
-// Where a line goes: the lengths of the set's name, of the label and of the first tombstone, its place in the output, and whether the run is dry.
+// Where a line goes: the lengths of the set's name and of the label, its place in the output, and whether the run is dry.
 #[derive(Clone, Copy)]
 struct Spot {
     n: usize,
     len: usize,
-    split: usize,
     at: usize,
     dry: bool,
 }
 
 // Puts the kept dots of a label's keys where they go in its line. Returns how many there are.
-fn put_kept(
-    spot: Spot,
-    a: &[u8],
-    b: &[u8],
-    dead: &[u8],
-    slots: &slots::Slots,
-    here: &clock::Words,
-    there: &clock::Words,
-    out: &mut [u8],
-) -> usize
-    requires two_tombstones { TwoTombstones dead.now spot.split slots.now }
-    requires can_put { CanPut spot (sides_of dead.now spot.split here.now there.now) a.now b.now (length out.old) }
-    ensures { DotsPut spot (sides_of dead.now spot.split here.now there.now) a.now b.now out.old out.new result }
+fn put_kept(spot: Spot, sides: &TwoSides<'_>, a: &[u8], b: &[u8], out: &mut [u8]) -> usize
+    requires { CanPut spot sides.now a.now b.now (length out.old) }
+    ensures { DotsPut spot sides.now a.now b.now out.old out.new result }
 {
-    let n = spot.n;
-    let len = spot.len;
-    let split = spot.split;
-    let dry = spot.dry;
-    let size = n + len + keys::LABEL_KEY_FIXED;
-    let from = spot.at + len + listing::LINE_FIXED;
+    let size = spot.n + spot.len + keys::LABEL_KEY_FIXED;
+    let from = spot.at + spot.len + listing::LINE_FIXED;
     let mut count = 0;
     let mut i = 0;
     let mut j = 0;
-    while (i < a.len()) | (j < b.len()) {
-        let next = lower_dot(first_dot(size, &a[i..]), first_dot(size, &b[j..]));
-        let kept = keeps(next, dead, split, slots, here, there);
-        count += put_dot(kept, dry, out, from + dots::DOT_SIZE * count, next.dot);
-        i = add_if(next.first, size, i);
-        j = add_if(next.second, size, j);
+    // Two places and no iterator: a place goes on only where its store holds the dot.
+    while let Some(next) = next_dot(size, &a[i..], &b[j..]) {
+        if sides.keeps(next) {
+            put_dot(spot.dry, out, from + dots::DOT_SIZE * count, next.dot);
+            count += 1;
+        }
+        if next.first {
+            i += size;
+        }
+        if next.second {
+            j += size;
+        }
     }
     count
 }
@@ -264,21 +261,11 @@ fn label_of<'a>(n: usize, len: usize, a: &'a [u8], b: &'a [u8]) -> &'a [u8]
 }
 
 // Puts the line of a label in its place, if a dot of it is kept. Returns how many bytes it takes.
-fn put_line<'a>(
-    spot: Spot,
-    a: &'a [u8],
-    b: &'a [u8],
-    dead: &[u8],
-    slots: &slots::Slots,
-    here: &clock::Words,
-    there: &clock::Words,
-    out: &mut [u8],
-) -> usize
-    requires two_tombstones { TwoTombstones dead.now spot.split slots.now }
-    requires can_put { CanPut spot (sides_of dead.now spot.split here.now there.now) a.now b.now (length out.old) }
-    ensures { LinePut spot (sides_of dead.now spot.split here.now there.now) a.now b.now out.old out.new result }
+fn put_line(spot: Spot, sides: &TwoSides<'_>, a: &[u8], b: &[u8], out: &mut [u8]) -> usize
+    requires { CanPut spot sides.now a.now b.now (length out.old) }
+    ensures { LinePut spot sides.now a.now b.now out.old out.new result }
 {
-    let count = put_kept(spot, a, b, dead, slots, here, there, out);
+    let count = put_kept(spot, sides, a, b, out);
     if count == 0 {
         return 0;
     }
@@ -293,89 +280,54 @@ fn put_line<'a>(
 
 // ---- all lines
 
-// A run over two stores: the lengths of the set's name and of the first tombstone, and whether it is dry.
-#[derive(Clone, Copy)]
-struct Run {
-    n: usize,
-    split: usize,
-    dry: bool,
-}
-
-// Where the line of a label of so many bytes goes in a run.
-fn spot_in(run: Run, len: usize, at: usize) -> Spot
-    ensures { result ≡ spot_in run len at }
-{
-    Spot {
-        n: run.n,
-        len,
-        split: run.split,
-        at,
-        dry: run.dry,
-    }
-}
-
 // Puts the lines of two stores at the front of out, which has room for them; a dry run only counts their bytes and labels.
-fn merge_lines<'a>(
-    run: Run,
-    a: &'a [u8],
-    b: &'a [u8],
-    dead: &[u8],
-    slots: &slots::Slots,
-    here: &clock::Words,
-    there: &clock::Words,
+// `dry` stays a flag: as an Option the output would be borrowed out of it anew for each line, and two functions would be twins.
+fn merge_lines(
+    n: usize,
+    dry: bool,
+    sides: &TwoSides<'_>,
+    a: &[u8],
+    b: &[u8],
     out: &mut [u8],
 ) -> listing::LinesPut
-    requires two_tombstones { TwoTombstones dead.now run.split slots.now }
-    requires can_merge { CanMerge run (sides_of dead.now run.split here.now there.now) a.now b.now (length out.old) }
-    ensures { Merges run (sides_of dead.now run.split here.now there.now) a.now b.now out.old out.new result }
+    requires { CanMerge n dry sides.now a.now b.now (length out.old) }
+    ensures { Merges n dry sides.now a.now b.now out.old out.new result }
 {
     let mut bytes = 0;
     let mut labels = 0;
     let mut i = 0;
     let mut j = 0;
-    loop {
-        let next = next_label(run.n, &a[i..], &b[j..]);
-        if next.len == 0 {
-            return listing::LinesPut {
-                bytes,
-                labels,
-                more: false,
-            };
-        }
+    while let Some(next) = next_label(n, &a[i..], &b[j..]) {
         let to = i + next.first;
         let end = j + next.second;
-        let spot = spot_in(run, next.len, bytes);
-        let size = put_line(spot, &a[i..to], &b[j..end], dead, slots, here, there, out);
-        labels = add_if(0 < size, 1, labels);
+        let spot = Spot {
+            n,
+            len: next.len,
+            at: bytes,
+            dry,
+        };
+        let size = put_line(spot, sides, &a[i..to], &b[j..end], out);
+        labels += usize::from(0 < size);
         bytes += size;
         i = to;
         j = end;
     }
+    listing::LinesPut {
+        bytes,
+        labels,
+        more: false,
+    }
 }
 
 // Puts all lines of two stores at the front of out, or nothing where they do not fit. They are never longer than the keys of both.
-fn put_all<'a>(
-    run: Run,
-    a: &'a [u8],
-    b: &'a [u8],
-    dead: &[u8],
-    slots: &slots::Slots,
-    here: &clock::Words,
-    there: &clock::Words,
-    out: &mut [u8],
-) -> listing::LinesPut
-    requires { TwoTombstones dead.now run.split slots.now × Mergeable run.n a.now b.now × (run.dry ≡ false) }
-    ensures { PutsAll run.n (sides_of dead.now run.split here.now there.now) a.now b.now out.old out.new result }
+fn put_all(n: usize, sides: &TwoSides<'_>, a: &[u8], b: &[u8], out: &mut [u8]) -> listing::LinesPut
+    requires { Mergeable n a.now b.now }
+    ensures { PutsAll n sides.now a.now b.now out.old out.new result }
 {
     if a.len() + b.len() <= out.len() {
-        return merge_lines(run, a, b, dead, slots, here, there, out);
+        return merge_lines(n, false, sides, a, b, out);
     }
-    let dry = Run {
-        n: run.n,
-        split: run.split,
-        dry: true,
-    };
-    let counted = merge_lines(dry, a, b, dead, slots, here, there, out);
+    let counted = merge_lines(n, true, sides, a, b, out);
     if out.len() < counted.bytes {
         return listing::LinesPut {
             bytes: 0,
@@ -383,7 +335,7 @@ fn put_all<'a>(
             more: true,
         };
     }
-    merge_lines(run, a, b, dead, slots, here, there, out)
+    merge_lines(n, false, sides, a, b, out)
 }
 
 // Bytes of two tombstones.
@@ -399,14 +351,14 @@ pub fn put_tombstone(dead: &mut [u8], at: usize, tombstone: &[u8], count: usize)
 }
 
 // Puts the merged listing of two sides at the front of out, or nothing where it does not fit. Their tombstones stand end to end, the first of `split` bytes.
-pub fn put_merged<'a>(
+pub fn put_merged<'s>(
     n: usize,
     split: usize,
-    a: &'a [u8],
-    b: &'a [u8],
-    dead: &[u8],
-    here: &clock::Words,
-    there: &clock::Words,
+    a: &[u8],
+    b: &[u8],
+    dead: &'s [u8],
+    here: &'s clock::Words,
+    there: &'s clock::Words,
     out: &mut [u8],
 ) -> listing::LinesPut
     requires { Mergeable n a.now b.now × EndToEnd dead.now split }
@@ -414,10 +366,17 @@ pub fn put_merged<'a>(
 {
     let mut slots = [0u8; slots::SLOTS];
     slots::fill_slots(dead, &mut slots);
-    let run = Run {
-        n,
-        split,
-        dry: false,
+    let sides = TwoSides {
+        first: slots::SlottedDots {
+            dots: &dead[..split],
+            slots: &slots,
+        },
+        here,
+        second: slots::SlottedDots {
+            dots: &dead[split..],
+            slots: &slots,
+        },
+        there,
     };
-    put_all(run, a, b, dead, &slots, here, there, out)
+    put_all(n, &sides, a, b, out)
 }

@@ -1,24 +1,24 @@
 -- What callers use of a message that was accepted: where its fields are, what they say, and its length. Assumes nothing.
 use mathlib.Core.Path.{◌≡◌, refl, sym, ap, ◌∙◌}
-use mathlib.Core.Bool.{Bool, true, false, cond}
+use mathlib.Core.Bool.{Bool, true, false, ◌||◌, cond, false≢true}
 use Prim.Native.Nat.{◌/◌, ◌≤◌}
 use native.Mathlib.Omega.{arith}
 use lib.Dec.{eqb}
 use lib.ListN.{length}
 use borrow.Author.Tests.{eq-eqb, leb-true}
 use Rattle.wire.specs.Bytes.{Bytes, end_of, part_of}
-use Rattle.wire.proofs.Tests.{both}
+use Rattle.wire.proofs.Tests.{both, both_left}
 use Rattle.wire.proofs.Fields.{part_length}
 use Rattle.dots.specs.declared.Dot.{Dot}
+use Rattle.dots.specs.declared.Answer.{Answer}
 use Rattle.dots.specs.Answer.{number_of}
 use Rattle.dots.specs.Names.{Name, Label}
 use Rattle.dots.specs.Dots.{Context, context_most}
 use Rattle.dots.specs.Wire.{dots_of, dot_size}
 use Rattle.dots.specs.Message.{Message, add, remove, context_of}
 use Rattle.dots.proofs.Loops.{length-dots_of}
-use Rattle.messages.specs.declared.MessageRead.{MessageRead}
-use Rattle.messages.specs.Message.{add_kind, message_ok, message_most}
-use Rattle.messages.specs.Read.{layout_of, message_at, name_of, message_of, read_answer, found_message, no_message, read_of}
+use Rattle.messages.specs.Message.{add_kind, remove_kind, message_ok, message_most}
+use Rattle.messages.specs.Read.{MessageRead, shape_ok, layout_of, message_at, name_of, message_of, read_answer, found_message, no_message, read_of}
 use Rattle.messages.specs.Layouts.{Within}
 use Rattle.messages.specs.Write.{WholeContext}
 use Rattle.messages.proofs.Lengths.{longest}
@@ -101,3 +101,13 @@ pub found : (s : Bytes) (r : MessageRead) → r ≡ read_of s → number_of r.an
 found s r e h =
     let accepts : number_of (read_answer s) ≡ 0 = sym (ap number_of (ap (λ (x : MessageRead). x.answer) e ∙ read-answers s)) ∙ h in
     rw (e, accepted-read s accepts) (accepted-found s accepts)
+
+-- a refusal that reading gives is none of the answer done: no kind byte of what is accepted is 0
+pub refusal_read : (s : Bytes) (a : Answer) → no_message a ≡ read_of s → number_of a ≡ 0 → ⊥
+unfolding shape_ok
+refusal_read s a e z =
+    let said : a ≡ read_answer s = ap (λ (x : MessageRead). x.answer) e ∙ read-answers s in
+    let accepts : number_of (read_answer s) ≡ 0 = ap number_of (sym said) ∙ z in
+    let kind : (layout_of s).kind ≡ 0 = sym (ap (λ (x : MessageRead). x.kind) (e ∙ accepted-read s accepts)) in
+    let known : (eqb (layout_of s).kind add_kind || eqb (layout_of s).kind remove_kind) ≡ true = both_left _ _ (passed s accepts).shaped in
+    false≢true (rw kind at known)

@@ -1,12 +1,12 @@
 -- What a right shape says: where the fields end, that they lie within the bytes, and how long the message is. Assumes nothing.
 use mathlib.Core.Path.{◌≡◌, refl, sym}
-use mathlib.Core.Bool.{Bool, true, false, cond}
-use Prim.Native.Nat.{ℕ, ◌+◌, ◌*◌, ◌%◌, ◌≤◌}
+use mathlib.Core.Bool.{Bool, true, false, cond, ◌||◌}
+use Prim.Native.Nat.{ℕ, ◌+◌, ◌*◌, ◌%◌}
 use native.Mathlib.Omega.{arith}
 use lib.Dec.{eqb}
 use lib.ListN.{length, get_or}
 use borrow.Author.Tests.{eqb-true, eqb-false}
-use Rattle.wire.specs.Bytes.{Bytes, part_at, part_of}
+use Rattle.wire.specs.Bytes.{Bytes, byte_at, part_at, part_of}
 use Rattle.wire.proofs.Tests.{both}
 use Rattle.wire.proofs.Fields.{part_length}
 use Rattle.dots.specs.declared.Dot.{Dot}
@@ -15,15 +15,10 @@ use Rattle.dots.specs.Dots.{Context}
 use Rattle.dots.specs.Wire.{dot_at, dots_of, dot_size}
 use Rattle.dots.specs.Message.{add, remove, context_of}
 use Rattle.dots.proofs.Loops.{length-dots_of}
-use Rattle.messages.specs.declared.Layout.{Layout}
 use Rattle.messages.specs.Message.{add_kind, remove_kind, message_bytes, front_fixed}
 use Rattle.messages.specs.Read.{add_layout, remove_layout, layout_of, shape_ok, message_at, name_of, message_of}
 use Rattle.messages.specs.Layouts.{Within}
 use Rattle.messages.proofs.Lengths.{length-add, length-remove}
-
--- an add's dot lies within the bytes
-pub own-fits : (s : Bytes) (l : Layout) → Within s l → l.kind ≡ add_kind → l.dot + dot_size ≤ length s
-own-fits s l within kind = within.dot kind
 
 -- a message's context is what its span says, whole dots
 module _ (s : Bytes) where
@@ -42,6 +37,15 @@ module _ (s : Bytes) where
       either : (b : Bool) → (cond b (add_layout s) (remove_layout s)).context.len % dot_size ≡ 0
       either true = omega arith
       either false = omega arith
+
+-- a byte that is no kind begins no message
+pub shape-known : (s : Bytes) → (eqb (byte_at s 5) add_kind || eqb (byte_at s 5) remove_kind) ≡ false → shape_ok s (layout_of s) ≡ false
+unfolding shape_ok layout_of
+shape-known s h = rw (kind-is (eqb (byte_at s 5) add_kind), h)
+  where
+    kind-is : (b : Bool) → (cond b (add_layout s) (remove_layout s)).kind ≡ byte_at s 5
+    kind-is true = refl
+    kind-is false = refl
 
 module _ (s : Bytes) (shaped : shape_ok s (layout_of s) ≡ true) where
   -- the context of an add ends the bytes

@@ -1,14 +1,17 @@
--- Layouts: their bounds, and the refusals that are tested at a layout's places. For the contracts of the functions behind read_message.
-use Rattle.std.specs.Prelude.{◌+◌, ◌≤◌, not, cond, [], ◌∷◌, ◌≡◌, eqb, length}
+-- Layouts: their bounds, and what is read at a layout's places. For the contracts of the functions behind read_message.
+use Rattle.std.specs.Prelude.{ℕ, ◌+◌, ◌≤◌, cond, ◌≡◌, eqb, length}
 use Rattle.wire.specs.Bytes.{Bytes, end_of}
-use Rattle.dots.specs.declared.Answer.TheVariants.{BadShape, BadName, BadDot}
 use Rattle.dots.specs.declared.Dot.{Dot}
-use Rattle.dots.specs.Answer.{Refusals}
 use Rattle.dots.specs.Dots.{zero_dot}
 use Rattle.dots.specs.Wire.{dot_at, dot_size}
-use Rattle.messages.specs.declared.Layout.{Layout}
-use Rattle.messages.specs.Message.{add_kind, names_ok, dots_ok, front_fixed}
-use Rattle.messages.specs.Read.{shape_ok, name_at, message_at}
+use Rattle.wire.specs.declared.Span.{Span}
+use Rattle.messages.specs.declared.MessageKind.{MessageKind}
+use Rattle.messages.specs.Message.{kind_byte, add_kind, front_fixed}
+use Rattle.messages.specs.Read.{Layout}
+
+-- the layout of a message of a kind
+abbrev pub laid : MessageKind → Span → Span → ℕ → Span → Layout
+laid kind name label dot context = record { kind = kind_byte kind; name = name; label = label; dot = dot; context = context }
 
 -- each length byte is at most 255, so no sum of places overflows
 pub record Small (l : Layout) : Type 0 where
@@ -30,14 +33,3 @@ pub record Within (s : Bytes) (l : Layout) : Type 0 where
 -- an add's own dot, and the zero dot of a remove
 abbrev pub own_dot : Bytes → Layout → Dot
 own_dot s l = cond (eqb l.kind add_kind) (dot_at s l.dot) zero_dot
-
--- the last rows of the table: the rules of the fields
-abbrev pub field_refusals : Bytes → Layout → Refusals
-field_refusals s l =
-    (not (names_ok (name_at s l) (message_at s l)), BadName)
-    ∷ (not (dots_ok (message_at s l)), BadDot)
-    ∷ []
-
--- the rows after mark and version
-abbrev pub shape_refusals : Bytes → Layout → Refusals
-shape_refusals s l = (not (shape_ok s l), BadShape) ∷ field_refusals s l

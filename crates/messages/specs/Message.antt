@@ -1,12 +1,16 @@
 -- "mark 50 54 4C ("PTL"), version 00 01, kind 61 (add) or 72 (remove), name length and name. An add then has label length and label,
 -- actor, 8-byte counter. Both end with the number of context dots in one byte and 9 bytes for each."
-use Rattle.std.specs.Prelude.{ℕ, ◌+◌, ◌*◌, Bool, not, ◌&&◌, ◌∷◌, ◌++◌, length}
+use Rattle.std.specs.Prelude.{ℕ, ◌+◌, ◌*◌, Bool, false, not, ◌&&◌, ◌||◌, ◌∷◌, ◌++◌, ◌≡◌, eqb, length, Result, MatchResult}
 use Rattle.wire.specs.Lists.{member}
 use Rattle.wire.specs.Bytes.{Bytes}
+use Rattle.dots.specs.declared.Answer.{Answer}
+use Rattle.dots.specs.declared.Answer.TheVariants.{BadShape}
 use Rattle.dots.specs.Names.{Name, name_most, label_most, name_ok, label_prints}
 use Rattle.dots.specs.Dots.{Context, compare_dots, dot_ok, context_most, context_ok}
 use Rattle.dots.specs.Wire.{dot_bytes, dots_bytes, dot_size}
 use Rattle.dots.specs.Message.{Message, add, remove}
+use Rattle.messages.specs.declared.MessageKind.{MessageKind}
+use Rattle.messages.specs.declared.MessageKind.TheVariants.{Add, Remove}
 
 -- the rules of set name and label (refusal 5); document 02, request 5: "add messages refuse with 5 any label byte outside 20 to 7E hexadecimal"
 abbrev pub names_ok : Name → Message → Bool
@@ -27,6 +31,14 @@ add_kind = 0x61
 
 abbrev pub remove_kind : ℕ
 remove_kind = 0x72
+
+abbrev pub kind_byte : MessageKind → ℕ
+kind_byte Add = add_kind
+kind_byte Remove = remove_kind
+
+-- the kind of a kind byte, and a refusal of a byte that is none
+abbrev pub Known : ℕ → Result MessageKind Answer → Type 0
+Known b r = MatchResult r (λ kind. kind_byte kind ≡ b) (λ answer. (answer ≡ BadShape) × ((eqb b add_kind || eqb b remove_kind) ≡ false))
 
 -- a length byte, and what it counts
 abbrev pub counted : Bytes → Bytes

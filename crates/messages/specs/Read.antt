@@ -1,17 +1,34 @@
 -- What bytes say as a message: where its fields are by the length bytes, the message, and the answer.
-use Rattle.std.specs.Prelude.{ℕ, ◌+◌, ◌*◌, Bool, not, cond, ◌&&◌, ◌||◌, [], ◌∷◌, leb, eqb, length}
+use Rattle.std.specs.Prelude.{ℕ, ◌+◌, ◌*◌, Bool, not, cond, ◌&&◌, ◌||◌, [], ◌∷◌, leb, eqb, length, Result, Ok, Err}
 use Rattle.wire.specs.Bytes.{Bytes, byte_at, span, end_of, part_of}
 use Rattle.wire.specs.declared.Span.{Span}
 use Rattle.dots.specs.declared.Answer.{Answer}
-use Rattle.dots.specs.declared.Answer.TheVariants.{NoMark, BadVersion, BadShape, BadName, BadDot}
+use Rattle.dots.specs.declared.Answer.TheVariants.{Done, NoMark, BadVersion, BadShape, BadName, BadDot}
+use Rattle.dots.specs.declared.Dot.{Dot}
 use Rattle.dots.specs.Answer.{Refusals, first_of, number_of}
 use Rattle.dots.specs.Names.{Name}
 use Rattle.dots.specs.Dots.{zero_dot}
 use Rattle.dots.specs.Wire.{dot_at, dots_of, dot_size}
 use Rattle.dots.specs.Message.{Message, add, remove}
-use Rattle.messages.specs.declared.Layout.{Layout}
-use Rattle.messages.specs.declared.MessageRead.{MessageRead}
-use Rattle.messages.specs.Message.{add_kind, remove_kind, names_ok, dots_ok}
+use Rattle.messages.specs.declared.MessageFields.{MessageFields}
+use Rattle.messages.specs.Message.{kind_byte, add_kind, remove_kind, names_ok, dots_ok}
+
+-- where the fields of a message are: its kind byte, name, label, the own dot's place, the context
+pub record Layout : Type 0 where
+  pub kind : ℕ
+  pub name : Span
+  pub label : Span
+  pub dot : ℕ
+  pub context : Span
+
+-- a message as it was read: its kind byte, where name, label and context stand, and an add's dot
+pub record MessageRead : Type 0 where
+  pub answer : Answer
+  pub kind : ℕ
+  pub name : Span
+  pub label : Span
+  pub dot : Dot
+  pub context : Span
 
 -- the field whose length byte stands at i
 abbrev pub counted_at : Bytes → ℕ → Span
@@ -96,6 +113,11 @@ found_message s l answer = record {
 -- "refused: all fields 0"
 abbrev pub no_message : Answer → MessageRead
 no_message answer = record { answer = answer; kind = 0; name = span 0 0; label = span 0 0; dot = zero_dot; context = span 0 0 }
+
+-- what reading gave, as the answer and the fields
+abbrev pub read_as : Result MessageFields Answer → MessageRead
+read_as (Ok m) = record { answer = Done; kind = kind_byte m.kind; name = m.name; label = m.label; dot = m.dot; context = m.context }
+read_as (Err a) = no_message a
 
 unfoldable pub read_of : Bytes → MessageRead
 read_of s = cond (accepted s) (found_message s (layout_of s) (read_answer s)) (no_message (read_answer s))

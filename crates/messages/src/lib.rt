@@ -3,40 +3,69 @@
 #![tactic(auto)]
 
 ghost use Rattle.std.specs.Prelude.{◌≡◌, ◌∷◌, ◌+◌, ◌≤◌, ◌<◌, length};
-ghost use Rattle.wire.specs.Bytes.{put_at};
-ghost use Rattle.dots.specs.Answer.{first_of};
+ghost use Rattle.wire.specs.Bytes.{byte_at, put_at};
 ghost use Rattle.dots.specs.Message.{add, remove};
-ghost use Rattle.dots.specs.Wire.{dot_bytes, dots_of, dot_size};
-ghost use Rattle.messages.specs.Message.{names_ok, dots_ok, front_fixed};
-ghost use Rattle.messages.specs.Read.{counted_at, dots_counted_at, add_layout, remove_layout, layout_of, mark_ok, version_ok, shape_ok, name_at, message_at, read_answer, found_message, no_message, read_of};
-ghost use Rattle.messages.specs.Layouts.{Small, Within, own_dot, field_refusals, shape_refusals};
-ghost use Rattle.messages.specs.Write.{WholeContext, FrontPut, ContextPut, AddFits, RemoveFits, Wrote};
 ghost use Rattle.dots.specs.Names.{name_most};
+ghost use Rattle.dots.specs.Wire.{dot_bytes, dots_of, dot_size};
+ghost use Rattle.messages.specs.Message.{add_kind, remove_kind, kind_byte, Known, names_ok, dots_ok, front_fixed};
+ghost use Rattle.messages.specs.Read.{counted_at, dots_counted_at, add_layout, remove_layout, layout_of, mark_ok, version_ok, shape_ok, name_at, message_at, read_of, read_as};
+ghost use Rattle.messages.specs.Layouts.{Within, own_dot};
+ghost use Rattle.messages.specs.Places.{laid_in};
+ghost use Rattle.messages.specs.Write.{WholeContext, FrontPut, ContextPut, AddFits, RemoveFits, Wrote};
+
+mod places;
+
+use places::Places;
 
 // Bytes of a remove beside name and context: mark, version, kind, name length; number of dots.
 pub const REMOVE_FIXED: usize = 8;
 // Bytes of an add beside name, label and context: label length and dot too.
 pub const ADD_FIXED: usize = REMOVE_FIXED + 1 + dots::DOT_SIZE;
 
-// Where the fields of a message are: kind byte, name, label, the own dot's place, the context.
-#[derive(Clone, Copy)]
-pub struct Layout {
-    pub kind: u8,
-    pub name: wire::Span,
-    pub label: wire::Span,
-    pub dot: usize,
-    pub context: wire::Span,
+// The kinds of messages.
+#[derive(Clone, Copy, PartialEq, Eq)]
+pub enum MessageKind {
+    Add,
+    Remove,
 }
 
-// A message as it was read: its kind byte, where name, label and context stand, and an add's dot; in a refusal all are 0.
+// What a message says: where name, label and context stand, and an add's dot; what a remove lacks is 0.
 #[derive(Clone, Copy)]
-pub struct MessageRead {
-    pub answer: dots::Answer,
-    pub kind: u8,
+pub struct MessageFields {
+    pub kind: MessageKind,
     pub name: wire::Span,
     pub label: wire::Span,
     pub dot: dots::Dot,
     pub context: wire::Span,
+}
+
+// ---- the kinds
+
+// The byte of a kind.
+impl From<MessageKind> for u8 {
+    ghost from_gives = { λ kind byte. byte ≡ kind_byte kind };
+
+    fn from(kind: MessageKind) -> u8 {
+        match kind {
+            MessageKind::Add => b'a',
+            MessageKind::Remove => b'r',
+        }
+    }
+}
+
+// The kind of a kind byte; a byte that is none is refused.
+impl TryFrom<u8> for MessageKind {
+    type Error = dots::Answer;
+
+    ghost try_from_gives = { Known };
+
+    fn try_from(byte: u8) -> Result<Self, dots::Answer> {
+        match byte {
+            b'a' => Ok(MessageKind::Add),
+            b'r' => Ok(MessageKind::Remove),
+            _ => Err(dots::Answer::BadShape),
+        }
+    }
 }
 
 // ---- where the fields are, by the length bytes
@@ -53,7 +82,7 @@ pub fn counted_at(s: &[u8], at: usize) -> wire::Span
     }
 }
 
-// The dots whose number stands at a place.
+// The dots whose number stands at a place. Not one function with the field above: other crates name both, each with its bound.
 pub fn dots_counted_at(s: &[u8], at: usize) -> wire::Span
     requires { at ≤ 1024 }
     ensures { (result ≡ dots_counted_at s.now at) × (result.at ≡ at + 1) × (result.len ≤ 2295) }
@@ -65,45 +94,47 @@ pub fn dots_counted_at(s: &[u8], at: usize) -> wire::Span
     }
 }
 
-fn add_layout(s: &[u8]) -> Layout
-    ensures { (result ≡ add_layout s.now) × Small result }
+fn add_places(s: &[u8]) -> Places
+    requires { add_kind ≡ byte_at s.now 5 }
+    ensures { laid_in result ≡ add_layout s.now }
 {
-    let kind = wire::byte_at(s, 5);
     let name = counted_at(s, 6);
     let label = counted_at(s, name.at + name.len);
     let dot = label.at + label.len;
     let context = dots_counted_at(s, dot + dots::DOT_SIZE);
-    Layout {
-        kind: kind,
-        name: name,
-        label: label,
-        dot: dot,
-        context: context,
+    Places {
+        kind: MessageKind::Add,
+        name,
+        label,
+        dot,
+        context,
     }
 }
 
-fn remove_layout(s: &[u8]) -> Layout
-    ensures { (result ≡ remove_layout s.now) × Small result }
+fn remove_places(s: &[u8]) -> Places
+    requires { remove_kind ≡ byte_at s.now 5 }
+    ensures { laid_in result ≡ remove_layout s.now }
 {
-    let kind = wire::byte_at(s, 5);
     let name = counted_at(s, 6);
     let context = dots_counted_at(s, name.at + name.len);
-    Layout {
-        kind: kind,
-        name: name,
-        label: wire::Span { at: 0, len: 0 },
+    Places {
+        kind: MessageKind::Remove,
+        name,
+        label: wire::Span::default(),
         dot: 0,
-        context: context,
+        context,
     }
 }
 
-fn layout_of(s: &[u8]) -> Layout
-    ensures { (result ≡ layout_of s.now) × Small result }
+// Where the fields of a message of this kind are.
+fn places_of(s: &[u8], kind: MessageKind) -> Places
+    requires { kind_byte kind ≡ byte_at s.now 5 }
+    ensures { laid_in result ≡ layout_of s.now }
 {
-    if wire::byte_at(s, 5) == b'a' {
-        return add_layout(s);
+    match kind {
+        MessageKind::Add => add_places(s),
+        MessageKind::Remove => remove_places(s),
     }
-    remove_layout(s)
 }
 
 // ---- the answer
@@ -123,142 +154,80 @@ fn version_ok(s: &[u8]) -> bool
     wire::size_at(s, 3) * 256 + wire::size_at(s, 4) == 1
 }
 
-// Whether the kind is known and the fields end where the bytes do.
-fn shape_ok(s: &[u8], l: Layout) -> bool
-    requires { Small l }
-    ensures { result ≡ shape_ok s.now l }
+// Whether the fields end where the bytes do.
+fn shape_ok(s: &[u8], l: Places) -> bool
+    ensures { result ≡ shape_ok s.now (laid_in l) }
 {
-    ((l.kind == b'a') | (l.kind == b'r')) & (l.context.at + l.context.len == s.len())
+    l.context.at + l.context.len == s.len()
 }
 
 // Whether set name and label keep their rules; an add has a label that prints.
-fn names_ok(s: &[u8], l: Layout) -> bool
-    requires { Small l }
-    ensures { result ≡ names_ok (name_at s.now l) (message_at s.now l) }
+fn names_ok(s: &[u8], l: Places) -> bool
+    ensures { result ≡ names_ok (name_at s.now (laid_in l)) (message_at s.now (laid_in l)) }
 {
     let name = dots::name_ok(wire::part(s, l.name.at, l.name.len));
-    if l.kind == b'a' {
-        return name & dots::label_prints(wire::part(s, l.label.at, l.label.len));
+    match l.kind {
+        MessageKind::Add => name & dots::label_prints(wire::part(s, l.label.at, l.label.len)),
+        MessageKind::Remove => name,
     }
-    name
 }
 
 // Whether dot and context keep their rules, and the own dot is not in the context.
-fn dots_ok(s: &[u8], l: Layout) -> bool
-    requires { Small l × Within s.now l }
-    ensures { result ≡ dots_ok (message_at s.now l) }
+fn dots_ok(s: &[u8], l: Places) -> bool
+    requires { Within s.now (laid_in l) }
+    ensures { result ≡ dots_ok (message_at s.now (laid_in l)) }
 {
     let context = wire::part(s, l.context.at, l.context.len);
     let rule = contexts::context_ok(context);
-    if l.kind == b'a' {
-        let own = dots::dot_at(s, l.dot);
-        return dots::dot_ok(own) & (rule & !contexts::has_dot(context, own));
+    match l.kind {
+        MessageKind::Add => {
+            let own = dots::dot_at(s, l.dot);
+            dots::dot_ok(own) & (rule & !contexts::has_dot(context, own))
+        }
+        MessageKind::Remove => rule,
     }
-    rule
-}
-
-// The answer of the fields' rules.
-fn fields_answer(s: &[u8], l: Layout) -> dots::Answer
-    requires { Small l × Within s.now l }
-    ensures { result ≡ first_of (field_refusals s.now l) }
-{
-    let bad_name = !names_ok(s, l);
-    let bad_dot = !dots_ok(s, l);
-    dots::first(
-        bad_name,
-        dots::Answer::BadName,
-        dots::first(bad_dot, dots::Answer::BadDot, dots::Answer::Done),
-    )
-}
-
-// The answer of the structure; where it is right the fields lie within the bytes, and their rules answer.
-fn shape_answer(s: &[u8], l: Layout) -> dots::Answer
-    requires { (l ≡ layout_of s.now) × Small l }
-    ensures { result ≡ first_of (shape_refusals s.now l) }
-{
-    if shape_ok(s, l) {
-        return fields_answer(s, l);
-    }
-    dots::Answer::BadShape
-}
-
-// The answer to a message.
-fn read_answer(s: &[u8], l: Layout) -> dots::Answer
-    requires { (l ≡ layout_of s.now) × Small l }
-    ensures { result ≡ read_answer s.now }
-{
-    let no_mark = !mark_ok(s);
-    let bad_version = !version_ok(s);
-    let rest = shape_answer(s, l);
-    dots::first(
-        no_mark,
-        dots::Answer::NoMark,
-        dots::first(bad_version, dots::Answer::BadVersion, rest),
-    )
 }
 
 // ---- reading
 
 // An add's own dot, and the zero dot of a remove.
-fn own_dot(s: &[u8], l: Layout) -> dots::Dot
-    requires { Within s.now l }
-    ensures { result ≡ own_dot s.now l }
+fn own_dot(s: &[u8], l: Places) -> dots::Dot
+    requires { Within s.now (laid_in l) }
+    ensures { result ≡ own_dot s.now (laid_in l) }
 {
-    if l.kind == b'a' {
-        return dots::dot_at(s, l.dot);
-    }
-    dots::Dot {
-        actor: dots::Actor { number: 0 },
-        counter: dots::Counter { number: 0 },
+    match l.kind {
+        MessageKind::Add => dots::dot_at(s, l.dot),
+        MessageKind::Remove => dots::Dot::default(),
     }
 }
 
-// What reading gives of a message that is accepted.
-fn found_message(s: &[u8], l: Layout, answer: dots::Answer) -> MessageRead
-    requires { Within s.now l }
-    ensures { result ≡ found_message s.now l answer }
+// Reads a message. The refusals are tested in the table's order.
+pub fn read_message(s: &[u8]) -> Result<MessageFields, dots::Answer>
+    ensures { read_as result ≡ read_of s.now }
 {
-    let dot = own_dot(s, l);
-    let name = l.name;
-    let label = l.label;
-    let context = l.context;
-    MessageRead {
-        answer: answer,
+    if !mark_ok(s) {
+        return Err(dots::Answer::NoMark);
+    }
+    if !version_ok(s) {
+        return Err(dots::Answer::BadVersion);
+    }
+    let l = places_of(s, MessageKind::try_from(wire::byte_at(s, 5))?);
+    if !shape_ok(s, l) {
+        return Err(dots::Answer::BadShape);
+    }
+    if !names_ok(s, l) {
+        return Err(dots::Answer::BadName);
+    }
+    if !dots_ok(s, l) {
+        return Err(dots::Answer::BadDot);
+    }
+    Ok(MessageFields {
         kind: l.kind,
-        name: name,
-        label: label,
-        dot: dot,
-        context: context,
-    }
-}
-
-// What reading gives of a message that is refused.
-fn no_message(answer: dots::Answer) -> MessageRead
-    ensures { result ≡ no_message answer }
-{
-    MessageRead {
-        answer: answer,
-        kind: 0,
-        name: wire::Span { at: 0, len: 0 },
-        label: wire::Span { at: 0, len: 0 },
-        dot: dots::Dot {
-            actor: dots::Actor { number: 0 },
-            counter: dots::Counter { number: 0 },
-        },
-        context: wire::Span { at: 0, len: 0 },
-    }
-}
-
-// Reads a message.
-pub fn read_message(s: &[u8]) -> MessageRead
-    ensures { result ≡ read_of s.now }
-{
-    let l = layout_of(s);
-    let answer = read_answer(s, l);
-    if dots::number_of(answer) == 0 {
-        return found_message(s, l, answer);
-    }
-    no_message(answer)
+        name: l.name,
+        label: l.label,
+        dot: own_dot(s, l),
+        context: l.context,
+    })
 }
 
 // ---- writing

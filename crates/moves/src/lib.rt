@@ -12,8 +12,8 @@ fn copy(part: &mut [u8], src: &[u8])
     requires { length src.now ≡ length part.old }
     ensures { part.new ≡ src.now }
 {
-    for i in 0..src.len() {
-        part[i] = src[i];
+    for (i, b) in src.iter().enumerate() {
+        part[i] = *b;
     }
 }
 
@@ -32,27 +32,24 @@ pub fn put_number(out: &mut [u8], at: usize, number: u64) -> usize
     requires { at + 8 ≤ length out.old }
     ensures { (result ≡ at + 8) × (out.new ≡ put_at out.old at (big_endian 8 number)) }
 {
-    let bytes = wire::number_bytes(number);
-    put(out, at, &bytes)
+    put(out, at, &wire::number_bytes(number))
 }
 
-// The same in four bytes.
+// The same in four bytes. Apart, since the numbers and their bytes have other types, and a const parameter does not choose a type.
 pub fn put_four(out: &mut [u8], at: usize, number: u32) -> usize
     requires { at + 4 ≤ length out.old }
     ensures { (result ≡ at + 4) × (out.new ≡ put_at out.old at (big_endian 4 number)) }
 {
-    let bytes = wire::four_bytes(number);
-    put(out, at, &bytes)
+    put(out, at, &wire::four_bytes(number))
 }
 
 // Moves all but the last `by` bytes of s up by `by`, in place; the first `by` keep their values.
+// By a loop, as below: std's copy_within is a call of memmove, which the library does without.
 fn shift_up(s: &mut [u8], by: usize)
     requires { by ≤ length s.old }
     ensures { s.new ≡ take by s.old ++ take (length s.old - by) s.old }
 {
-    let mut i = s.len() - by;
-    while 0 < i {
-        i -= 1;
+    for i in (0..s.len() - by).rev() {
         s[i + by] = s[i];
     }
 }
@@ -62,11 +59,8 @@ pub fn shift_down(s: &mut [u8], by: usize)
     requires { by ≤ length s.old }
     ensures { s.new ≡ drop by s.old ++ drop (length s.old - by) s.old }
 {
-    let left = s.len() - by;
-    let mut i = 0;
-    while i < left {
+    for i in 0..s.len() - by {
         s[i] = s[i + by];
-        i += 1;
     }
 }
 
@@ -74,11 +68,7 @@ pub fn shift_down(s: &mut [u8], by: usize)
 pub fn clear(s: &mut [u8])
     ensures { s.new ≡ replicate (length s.old) 0 }
 {
-    let mut i = 0;
-    while i < s.len() {
-        s[i] = 0;
-        i += 1;
-    }
+    s.fill(0);
 }
 
 // Puts the piece before the bytes of s, which move up; the last ones, as many as the piece has, are lost.

@@ -32,7 +32,9 @@ use Rattle.calls.specs.Damage.{damaged}
 use Rattle.calls.specs.Refusals.{bad_context, has_dot, too_far, tombstone_full, store_full, output_short}
 use Rattle.calls.specs.Calls.{add_written, own_add_refusals, own_add_done, own_add_result}
 use Rattle.calls.specs.Promise.{Leaves}
-use Rattle.steps.specs.Tests.{ContextFits, own_next, late_refusals, add_late, MayOffer, applied}
+use Rattle.std.specs.Prelude.{Result, Ok, Err}
+use Rattle.steps.proofs.Passed.{passed-refused, refused-is, passed-is}
+use Rattle.steps.specs.Tests.{passed, ContextFits, own_next, Told, late_refusals, add_late, MayOffer, applied}
 use Rattle.judging.specs.Judging.{state_ok, LowPart}
 use Rattle.own.specs.Work.{add_early, AddAnswers, MayAdd, Added}
 use Rattle.calls.proofs.Clauses.{Undamaged, undamaged, rows_ok_lem, used-fits, store-fits}
@@ -95,14 +97,14 @@ module _ (st : State) (label context : Bytes) (lent : Lent) (size : Sized st) (r
     stopped t out = stops early r k is-early g (late out) t
 
     module _ (t : k ≡ 0) where
-      passed : NoneHolds early
-      passed = none_of early r k is-early g (search rules) t
+      none-early : NoneHolds early
+      none-early = none_of early r k is-early g (search rules) t
 
       u : Undamaged st store
-      u = undamaged st store passed.0
+      u = undamaged st store none-early.0
 
       pub add-next : (row_at st.clock.words st.actor.number).base + 1 ≤ max_counter
-      add-next = next_fits st store u passed.1.1.1.1.0
+      add-next = next_fits st store u none-early.1.1.1.1.0
 
       pub add_kept : MayOffer st label context (own_next st)
       unfolding view
@@ -110,12 +112,12 @@ module _ (st : State) (label context : Bytes) (lent : Lent) (size : Sized st) (r
           let fits = used-fits st store u in
           let most = store-fits st store u in
           record {
-            state-ok = state-kept st store passed.0;
+            state-ok = state-kept st store none-early.0;
             small = omega arith;
-            labelled = prints-ok label (not-false _ passed.1.0);
-            fits = context-fits context (neither_left (bad_context context) (has_dot (own_next st) (dots_of context)) passed.1.1.0);
-            dot-ok = next-ok st store u passed.1.1.1.1.0;
-            new = neither_right (bad_context context) (has_dot (own_next st) (dots_of context)) passed.1.1.0;
+            labelled = prints-ok label (not-false _ none-early.1.0);
+            fits = context-fits context (neither_left (bad_context context) (has_dot (own_next st) (dots_of context)) none-early.1.1.0);
+            dot-ok = next-ok st store u none-early.1.1.1.1.0;
+            new = neither_right (bad_context context) (has_dot (own_next st) (dots_of context)) none-early.1.1.0;
           }
 
       passed_on : (d : Dot) (q : Answer) (out : Bytes) → d ≡ own_next st
@@ -126,12 +128,33 @@ module _ (st : State) (label context : Bytes) (lent : Lent) (size : Sized st) (r
           passes early r k is-early g (late out) q (search rules) t
           (h ∙ rw (i, full, add-size st label context (own_next st) size add_kept.state-ok add_kept.fits))
 
-  pub add-refused : (k ≡ 0 → ⊥) → AddAnswers st label context lent r
-  add-refused t store out e f d = stopped store d t out
+  pub add-refused : (k ≡ 0 → ⊥) → AddAnswers st label context lent (Err r)
+  add-refused t store out e f d = passed-refused _ _ (stopped store d t out) (λ z. t (g ∙ z))
 
-  pub add-passed : k ≡ 0 → (d : Dot) (q : Answer) → d ≡ own_next st
-      → q ≡ first_of (add_late st lent.store label d (dots_of context) (ltb lent.out (st.name.len + length label + length context + add_fixed))) → AddAnswers st label context lent q
-  add-passed t d q i h store out e f w = passed_on store w t d q out i (rw (e, f) h)
+  pub add-passed : k ≡ 0 → (d : Dot) (q : Result Unit Answer) → d ≡ own_next st
+      → q ≡ passed (first_of (add_late st lent.store label d (dots_of context) (ltb lent.out (st.name.len + length label + length context + add_fixed)))) → AddAnswers st label context lent q
+  add-passed t d q i h store out e f w =
+      let same : q ≡ passed (first_of (add_late st (length store) label d (dots_of context) (ltb (length out) (st.name.len + length label + length context + add_fixed)))) = rw (e, f) h in
+      same ∙ ap passed (passed_on store w t d _ out i refl)
+
+-- what the earlier refusals tell, as the code passes them up
+module _ (st : State) (label context : Bytes) (lent : Lent) (told : Told st lent) (q : Result Unit Answer) (tested : q ≡ passed (first_of (add_early lent.damage st.actor st.clock.words label context))) where
+  pub early-refused : (a : Answer) → q ≡ Err a → AddAnswers st label context lent (Err a)
+  early-refused a e = let r = refused-is a (first_of (add_early lent.damage st.actor st.clock.words label context)) (sym e ∙ tested) in add-refused st label context lent told.sized a (number_of a) r.0 refl r.1
+
+  module _ (u : Unit {0}) (e : q ≡ Ok u) where
+    none-early-holds : number_of (first_of (add_early lent.damage st.actor st.clock.words label context)) ≡ 0
+    none-early-holds = passed-is _ u (sym e ∙ tested)
+
+    pub early-next : (row_at st.clock.words st.actor.number).base + 1 ≤ max_counter
+    early-next = add-next st label context lent told.sized _ _ refl refl told.store told.tells none-early-holds
+
+    pub early-offer : (d : Dot) → d ≡ own_next st → MayOffer st label context d
+    early-offer d i = subst (λ (x : Dot). MayOffer st label context x) (sym i) (add_kept st label context lent told.sized _ _ refl refl told.store told.tells none-early-holds)
+
+    pub early-passed : (d : Dot) (r : Result Unit Answer) → d ≡ own_next st
+        → r ≡ passed (first_of (add_late st lent.store label d (dots_of context) (ltb lent.out (st.name.len + length label + length context + add_fixed)))) → AddAnswers st label context lent r
+    early-passed = add-passed st label context lent told.sized _ _ refl refl none-early-holds
 
 -- the sizes that the later refusals add up
 pub record Sizes (st : State) (label context : Bytes) : Type 0 where

@@ -1,6 +1,6 @@
 -- Own remove: its refusals as the code groups them, and what its acceptance gives the code to go on with. Assumes nothing.
 use Prim.Native.Nat.{ℕ, ◌+◌, ◌≤◌}
-use mathlib.Core.Path.{◌≡◌, sym, ap, ◌∙◌}
+use mathlib.Core.Path.{◌≡◌, refl, sym, ap, ◌∙◌}
 use mathlib.Core.Bool.{true, false}
 use mathlib.Core.List.{◌++◌}
 use native.Mathlib.Omega.{arith}
@@ -26,7 +26,9 @@ use Rattle.calls.specs.Damage.{damaged}
 use Rattle.calls.specs.Refusals.{too_far, tombstone_full, output_short}
 use Rattle.calls.specs.Calls.{own_remove_refusals, remove_written, own_remove_done, own_remove_result}
 use Rattle.calls.specs.Promise.{Leaves}
-use Rattle.steps.specs.Tests.{ContextFits, late_refusals, remove_late}
+use Rattle.std.specs.Prelude.{Result, Ok, Err}
+use Rattle.steps.proofs.Passed.{passed-refused, refused-is, passed-is}
+use Rattle.steps.specs.Tests.{passed, Told, ContextFits, late_refusals, remove_late}
 use Rattle.judging.specs.Judging.{state_ok}
 use Rattle.own.specs.Work.{remove_early, RemoveAnswers, MayWriteRemove, Removed}
 use Rattle.calls.proofs.Clauses.{undamaged}
@@ -71,11 +73,28 @@ module _ (st : State) (context : Bytes) (lent : Lent) (size : Sized st) (r : Ans
     passed_on t q out h =
         passes early r k is-early g (late out) q (search rules) t (h ∙ rw (remove-size st context size (remove-kept t).0 (remove-kept t).1))
 
-  pub remove-refused : (k ≡ 0 → ⊥) → RemoveAnswers st context lent r
-  remove-refused t store out e f d = stopped store d t out
+  pub remove-refused : (k ≡ 0 → ⊥) → RemoveAnswers st context lent (Err r)
+  remove-refused t store out e f d = passed-refused _ _ (stopped store d t out) (λ z. t (g ∙ z))
 
-  pub remove-passed : k ≡ 0 → (q : Answer) → q ≡ first_of (remove_late st (dots_of context) (ltb lent.out (st.name.len + length context + remove_fixed))) → RemoveAnswers st context lent q
-  remove-passed t q h store out e f d = passed_on store d t q out (rw f h)
+  pub remove-passed : k ≡ 0 → (q : Result Unit Answer) → q ≡ passed (first_of (remove_late st (dots_of context) (ltb lent.out (st.name.len + length context + remove_fixed)))) → RemoveAnswers st context lent q
+  remove-passed t q h store out e f d =
+      let same : q ≡ passed (first_of (remove_late st (dots_of context) (ltb (length out) (st.name.len + length context + remove_fixed)))) = rw f h in
+      same ∙ ap passed (passed_on store d t _ out refl)
+
+-- what the earlier refusals tell, as the code passes them up
+module _ (st : State) (context : Bytes) (lent : Lent) (told : Told st lent) (q : Result Unit Answer) (tested : q ≡ passed (first_of (remove_early lent.damage st.actor st.clock.words context))) where
+  pub early-refused : (a : Answer) → q ≡ Err a → RemoveAnswers st context lent (Err a)
+  early-refused a e = let r = refused-is a (first_of (remove_early lent.damage st.actor st.clock.words context)) (sym e ∙ tested) in remove-refused st context lent told.sized a (number_of a) r.0 refl r.1
+
+  module _ (u : Unit {0}) (e : q ≡ Ok u) where
+    none-early-holds : number_of (first_of (remove_early lent.damage st.actor st.clock.words context)) ≡ 0
+    none-early-holds = passed-is _ u (sym e ∙ tested)
+
+    pub early-kept : (state_ok st ≡ true) × ContextFits context
+    early-kept = remove-kept st context lent told.sized _ _ refl refl told.store told.tells none-early-holds
+
+    pub early-passed : (r : Result Unit Answer) → r ≡ passed (first_of (remove_late st (dots_of context) (ltb lent.out (st.name.len + length context + remove_fixed)))) → RemoveAnswers st context lent r
+    early-passed = remove-passed st context lent told.sized _ _ refl refl none-early-holds
 
 module _ (st : State) (store context out : Bytes) (a : Answer) (k : ℕ) (answered : a ≡ first_of (own_remove_refusals st store context out)) (numbered : k ≡ number_of a) where
   pub own_remove_refused : (k ≡ 0 → ⊥) → Leaves (own_remove_result st store context out) store out (record { answer = a; state = st; written = 0 })
@@ -89,12 +108,12 @@ module _ (st : State) (store context out : Bytes) (a : Answer) (k : ℕ) (answer
     pub may-remove : Sized st → MayWriteRemove st context (length out)
     unfolding effect apply view
     may-remove size =
-        let passed = passed-all in
-        let ok = state-kept st store passed.0 in
-        let fits = context-fits context passed.1.0 in
-        let room : length (remove_written st store context out) ≤ length out = ltb-false _ _ passed.1.1.1.1.1.0 in
+        let n = passed-all in
+        let ok = state-kept st store n.0 in
+        let fits = context-fits context n.1.0 in
+        let room : length (remove_written st store context out) ≤ length out = ltb-false _ _ n.1.1.1.1.1.0 in
         record {
-          applies = record { state-ok = ok; fits = fits; close = not-false _ passed.1.1.1.0; few = ltb-false _ _ passed.1.1.1.1.0; sized = size };
+          applies = record { state-ok = ok; fits = fits; close = not-false _ n.1.1.1.0; few = ltb-false _ _ n.1.1.1.1.0; sized = size };
           room_for = omega (arith, room, remove-size st context size ok fits);
         }
 

@@ -1,5 +1,5 @@
 -- What the code of own add and own remove tests, counts on and leaves, beside the steps.
-use Rattle.std.specs.Prelude.{ℕ, ◌+◌, ◌≤◌, Bool, false, ◌||◌, List, ◌≡◌, eqb, length}
+use Rattle.std.specs.Prelude.{ℕ, ◌+◌, ◌≤◌, Bool, false, ◌||◌, List, ◌≡◌, eqb, length, Result}
 use Rattle.wire.specs.Lists.{any}
 use Rattle.wire.specs.Bytes.{Bytes}
 use Rattle.dots.specs.Answer.{Refusals}
@@ -7,12 +7,10 @@ use Rattle.dots.specs.declared.Answer.{Answer}
 use Rattle.dots.specs.declared.Answer.TheVariants.{Done}
 use Rattle.dots.specs.Wire.{dots_of}
 use Rattle.dots.specs.declared.Actor.{Actor}
-use Rattle.dots.specs.declared.Dot.{Dot}
 use Rattle.dots.specs.Dots.{max_counter, dot_of}
-use Rattle.dots.specs.Names.{Name, Label, name_most, label_most}
 use Rattle.clock.specs.Clock.{row_at}
 use Rattle.dots.specs.Message.{add, remove}
-use Rattle.messages.specs.Write.{WholeContext, Wrote}
+use Rattle.messages.specs.Write.{Wrote}
 use Rattle.calls.specs.declared.State.{State}
 use Rattle.calls.specs.declared.Outcome.{Outcome}
 use Rattle.calls.specs.State.{name_of}
@@ -34,26 +32,12 @@ add_early damage own words label context =
 abbrev pub remove_early : Bool → Actor → List ℕ → Bytes → Refusals
 remove_early damage own words context = early_refusals damage false (bad_context context) (any (ahead_of own (row_at words own.number).base) (dots_of context)) false
 
--- the answers of the calls
-abbrev pub AddAnswers : State → Bytes → Bytes → Lent → Answer → Type 0
+-- the refusals of the calls
+abbrev pub AddAnswers : State → Bytes → Bytes → Lent → Result Unit Answer → Type 0
 AddAnswers st label context lent r = Answers st lent (λ store out. own_add_refusals st store label context out) r
 
-abbrev pub RemoveAnswers : State → Bytes → Lent → Answer → Type 0
+abbrev pub RemoveAnswers : State → Bytes → Lent → Result Unit Answer → Type 0
 RemoveAnswers st context lent r = Answers st lent (λ store out. own_remove_refusals st store context out) r
-
--- ---- the messages
-
--- what writing a message counts on, for a set whose name is the first len bytes, and an output of so many bytes
-abbrev pub MayPutAdd : Bytes → ℕ → Bytes → Bytes → ℕ → Type 0
-MayPutAdd name len label context room =
-    (len ≤ name_most) × (len ≤ length name) × (length label ≤ label_most) × WholeContext context × (len + length label + length context + add_fixed ≤ room)
-
-abbrev pub MayPutRemove : Bytes → ℕ → Bytes → ℕ → Type 0
-MayPutRemove name len context room = (len ≤ name_most) × (len ≤ length name) × WholeContext context × (len + length context + remove_fixed ≤ room)
-
--- an add message was written
-abbrev pub WroteAdd : Name → Label → Dot → Bytes → Bytes → Bytes → ℕ → Type 0
-WroteAdd name label d context out out' r = Wrote name (add label d (dots_of context)) out out' r
 
 -- ---- what the calls count on, and what they leave
 

@@ -12,33 +12,22 @@ struct Reader<'a> {
     at: usize,
 }
 
-// Where the key at a place ends, for a set name of n bytes; past the last key, and for a name too long, the end of the keys.
-fn end_at(keys: &[u8], at: usize, n: usize) -> usize
-    ensures { result ≡ key_end keys.now at n }
-{
-    if (keys.len() <= at) | (dots::NAME_MOST < n) {
-        return keys.len();
+impl<'a> Reader<'a> {
+    // Where the key that it has come to ends, for a set name of n bytes; past the last key, and for a name too long, the end of the keys.
+    fn key_end(self, n: usize) -> usize
+        ensures { result ≡ key_end self.entry.keys.now self.entry.at n }
+    {
+        let Reader { keys, at } = self;
+        if (keys.len() <= at) | (dots::NAME_MOST < n) {
+            return keys.len();
+        }
+        at + store::key_length(n, &keys[at..])
     }
-    at + store::key_length(n, &keys[at..])
-}
-
-// A reader at a place.
-fn reader_at<'a>(keys: &'a [u8], at: usize) -> Reader<'a>
-    ensures { (result.keys ≡ keys.entry) × (result.at ≡ at) }
-{
-    Reader { keys, at }
-}
-
-// Where the key that a reader has come to ends.
-fn next<'a>(r: Reader<'a>, n: usize) -> usize
-    ensures { result ≡ key_end r.entry.keys.now r.entry.at n }
-{
-    end_at(r.keys, r.at, n)
 }
 
 // The same at a place, by a reader that is made here.
 pub fn key_end(keys: &[u8], at: usize, n: usize) -> usize
     ensures { result ≡ key_end keys.now at n }
 {
-    next(reader_at(keys, at), n)
+    Reader { keys, at }.key_end(n)
 }

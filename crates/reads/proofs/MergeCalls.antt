@@ -80,20 +80,26 @@ module _ (st : State) (store : Bytes) (st' : State) (store' : Bytes) where
     pub sides-answered : (answer : Answer) → answer ≡ first_of (set_refusals (p || q) st.name st'.name) → answer ≡ first_of sides_refusals
     sides-answered answer a = a ∙ rw (e, f)
 
-  module _ (answer : Answer) (k : ℕ) (answered : answer ≡ first_of (sides_refusals)) (numbered : k ≡ number_of answer) where
+  module _ (answer : Answer) (answered : answer ≡ first_of (sides_refusals)) where
+    undone : (answer ≡ Done → ⊥) → number_of answer ≡ 0 → ⊥
+    undone some z = some (answered ∙ sides-done (ap number_of (sym answered) ∙ z))
+      where
+        sides-done : number_of (first_of sides_refusals) ≡ 0 → first_of sides_refusals ≡ Done
+        sides-done z = let none = none-holds (sides_refusals) (omega arith, (omega arith, tt)) z in rw (none.0, none.1.0)
+
     -- it refuses
-    pub no_merge : (out : Bytes) → (k ≡ 0 → ⊥) → Lists (merge_result st store st' store' out) out (record { answer = answer; written = 0; labels = 0 })
+    pub no_merge : (out : Bytes) → (answer ≡ Done → ⊥) → Lists (merge_result st store st' store' out) out (record { answer = answer; written = 0; labels = 0 })
     unfolding merge_result
-    no_merge out h =
+    no_merge out some =
         let short : Refusals = (output_short out (listing_bytes (merge_lines st store st' store')), OutputShort) ∷ [] in
         let all : Answer = first_of (sides_refusals ++ short) in
-        let whole : answer ≡ all = stops (sides_refusals) answer k answered numbered short h in
-        rw (ne_eqb (number_of all) 0 (λ z. h (numbered ∙ ap number_of whole ∙ z))) (record { answered = whole; written_is = refl; labels_are = refl; out-is = refl })
+        let whole : answer ≡ all = stops (sides_refusals) answer (number_of answer) answered refl short (undone some) in
+        rw (ne_eqb (number_of all) 0 (λ z. undone some (ap number_of whole ∙ z))) (record { answered = whole; written_is = refl; labels_are = refl; out-is = refl })
 
     -- none holds: two undamaged controllers of one set
-    pub may-merge : k ≡ 0 → (damaged st store ≡ false) × (damaged st' store' ≡ false) × (name_of st' ≡ name_of st)
+    pub may-merge : answer ≡ Done → (damaged st store ≡ false) × (damaged st' store' ≡ false) × (name_of st' ≡ name_of st)
     may-merge z =
-        let none = none-holds (sides_refusals) (omega arith, (omega arith, tt)) (ap number_of (sym answered) ∙ sym numbered ∙ z) in
+        let none = none-holds (sides_refusals) (omega arith, (omega arith, tt)) (ap number_of (sym answered ∙ z)) in
         let damage : (damaged st store || damaged st' store') ≡ false = none.0 in
         (search neither, search neither, bytes_lawful.tie (name_of st') (name_of st) (tie-is _ (pass (not-false (compare_is_eq (compare_bytes (name_of st') (name_of st))) none.1.0))))
 

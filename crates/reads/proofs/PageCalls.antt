@@ -9,7 +9,7 @@ use lib.ListN.{length, take, drop, length-drop}
 use borrow.Author.Tests.{lt-ltb, ne_eqb}
 use Rattle.wire.specs.Bytes.{Bytes}
 use Rattle.wire.proofs.Fields.{put_front}
-use Rattle.wire.proofs.Parts.{drop-take}
+use Rattle.wire.proofs.Parts.{rest_part}
 use Rattle.dots.specs.Answer.{number_of, first_of}
 use Rattle.dots.specs.declared.Answer.{Answer}
 use Rattle.dots.specs.declared.Answer.TheVariants.{Done, Damaged, BadName, OutputShort}
@@ -24,23 +24,22 @@ use Rattle.calls.specs.Damage.{damaged}
 use Rattle.calls.specs.Refusals.{bad_start}
 use Rattle.calls.specs.Calls.{refused, lines_put, page_result, more_follow}
 use Rattle.calls.specs.Promise.{Pages, PagesAfter}
-use Rattle.steps.specs.Tests.{early_refusals}
 use Rattle.reads.specs.Reads.{Readable, lines_in, put_answer, paged_of, page_start}
 use Rattle.reads.proofs.ReadCalls.{readable}
 use Rattle.reads.proofs.PageStarts.{start-stored, start-lines}
 
 -- ---- refusals 1 and 5
 
-module _ (st : State) (store start : Bytes) (damage bad : Bool) (d : damage ≡ damaged st store) (b : bad ≡ bad_start start) (answer : Answer) (a : answer ≡ first_of (early_refusals damage bad false false false)) where
-  pub may-page : number_of answer ≡ 0 → (damaged st store ≡ false) × (bad_start start ≡ false)
-  may-page z = by_tests damage bad d b (ap number_of (sym a) ∙ z)
+module _ (st : State) (store start : Bytes) (damage bad : Bool) (d : damage ≡ damaged st store) (b : bad ≡ bad_start start) (answer : Answer) (a : answer ≡ first_of ((damage, Damaged) ∷ (bad, BadName) ∷ [])) where
+  pub may-page : answer ≡ Done → (damaged st store ≡ false) × (bad_start start ≡ false)
+  may-page z = by_tests damage bad d b (ap number_of (sym a ∙ z))
     where
       by_tests : (p q : Bool) → p ≡ damaged st store → q ≡ bad_start start → number_of (cond p Damaged (cond q BadName Done)) ≡ 0 → (damaged st store ≡ false) × (bad_start start ≡ false)
       by_tests false false e f z = (sym e, sym f)
       by_tests false true e f z = let none : ⊥ = omega arith in absurd none
       by_tests true q e f z = let none : ⊥ = omega arith in absurd none
 
-  pub no_page : (out : Bytes) → (number_of answer ≡ 0 → ⊥) → PagesAfter st store start out out (record { answer = answer; written = 0; labels = 0; more = false })
+  pub no_page : (out : Bytes) → (answer ≡ Done → ⊥) → PagesAfter st store start out out (record { answer = answer; written = 0; labels = 0; more = false })
   unfolding page_result more_follow
   no_page out z = by_tests damage bad d b a
     where
@@ -48,7 +47,7 @@ module _ (st : State) (store start : Bytes) (damage bad : Bool) (d : damage ≡ 
           → PagesAfter st store start out out (record { answer = answer; written = 0; labels = 0; more = false })
       by_tests true q e f g = rw (← e) (record { answered = g; written_is = refl; labels_are = refl; more-is = refl; out-is = refl })
       by_tests false true e f g = rw (← e, ← f) (record { answered = g; written_is = refl; labels_are = refl; more-is = refl; out-is = refl })
-      by_tests false false e f g = absurd (z (ap number_of g))
+      by_tests false false e f g = absurd (z g)
 
 -- ---- lines put out
 
@@ -106,8 +105,8 @@ module _ (st : State) (store start keys : Bytes) (k : keys ≡ drop (page_start 
       readable st store keys sized f (rw k (start-stored st store start sized f ok)) (rw (k, length-drop) (omega arith))
 
 pub past-start : (st : State) (store start : Bytes) (from : ℕ) → from ≡ page_start (name_of st) start (used_part st store)
-    → take (st.used - from) (drop from store) ≡ drop (page_start (name_of st) start (used_part st store)) (used_part st store)
-past-start st store start from e = rw (← e) (sym (drop-take from st.used store))
+    → take (length (used_part st store) - from) (drop from (used_part st store)) ≡ drop (page_start (name_of st) start (used_part st store)) (used_part st store)
+past-start st store start from e = rest_part (used_part st store) from ∙ rw e
 
 pub page-given : (st : State) (store start out out' keys : Bytes) (put : LinesPut) → Sized st → damaged st store ≡ false → bad_start start ≡ false
     → keys ≡ drop (page_start (name_of st) start (used_part st store)) (used_part st store)

@@ -39,8 +39,7 @@ use Rattle.calls.specs.State.{clock_model, name_of, tombstone_dots, used_part, e
 use Rattle.calls.specs.Damage.{state_name_ok, tombstone_ok, damaged}
 use Rattle.wire.proofs.Fields.{put_front}
 use Rattle.replica.specs.Page.{fitting}
-use Rattle.calls.specs.Refusals.{bad_label, output_short}
-use Rattle.steps.specs.Tests.{early_refusals}
+use Rattle.calls.specs.Refusals.{output_short}
 use Rattle.calls.specs.Calls.{refused, lines_put, list_result, Looked, not_looked, lower_labels, same_label, bytes_of, lookup_refusals, lookup_done, lookup_result}
 use Rattle.calls.specs.Promise.{Lists, LooksUp}
 use Rattle.reads.specs.Reads.{Readable, lines_in, put_answer, listed_of}
@@ -175,28 +174,29 @@ part_of_store store r name label used h block offset bytes =
     let fits : stretch_end name label front ≤ used = omega (arith, stretch-within name label front, length-take-le used store.now h) in
     record { block = block; offset = offset; bytes = bytes ∙ part_of_front store.now used (stretch_start name label front) (stretch_end name label front) fits }
 
--- the tests of a lookup that passes
 -- the refusals of a lookup as the code tests them
-pub look_is : (st : State) (store label : Bytes) (damage : Bool) (number : ℕ) → damage ≡ damaged st store → number ≡ number_of (first_of (early_refusals damage (bad_label label) false false false))
-    → number ≡ number_of (first_of (lookup_refusals st store label))
-look_is st store label damage number d n = rw d at n
+pub look_is : (st : State) (store label : Bytes) (damage labelled : Bool) (answer : Answer) → damage ≡ damaged st store → labelled ≡ label_ok label
+    → answer ≡ first_of ((damage, Damaged) ∷ (not labelled, BadName) ∷ []) → answer ≡ first_of (lookup_refusals st store label)
+look_is st store label damage labelled answer d l a = rw (d, l) at a
 
-pub may_look : (st : State) (store label : Bytes) (number : ℕ) → number ≡ number_of (first_of (lookup_refusals st store label)) → number ≡ 0 → (damaged st store ≡ false) × (label_ok label ≡ true)
-may_look st store label number n z = by_tests (damaged st store) (label_ok label) (sym n ∙ z)
-  where
-    by_tests : (damage labelled : Bool) → number_of (cond damage Damaged (cond (not labelled) BadName Done)) ≡ 0 → (damage ≡ false) × (labelled ≡ true)
-    by_tests false true e = (refl, refl)
-    by_tests false false e = let none : ⊥ = omega arith in absurd none
-    by_tests true labelled e = let none : ⊥ = omega arith in absurd none
+-- none holds: the tests of a lookup that passes
+tested : (damage labelled : Bool) → number_of (cond damage Damaged (cond (not labelled) BadName Done)) ≡ 0 → (damage ≡ false) × (labelled ≡ true)
+tested false true e = (refl, refl)
+tested false false e = let none : ⊥ = omega arith in absurd none
+tested true labelled e = let none : ⊥ = omega arith in absurd none
 
-pub not_looked_lem : (st : State) (store r : Bor Bytes) (label : Bytes) (number : ℕ) → number ≡ number_of (first_of (lookup_refusals st store.now label)) → (number ≡ 0 → ⊥) → IsPart store 0 0 r
-    → LooksUp st store label number false r
+pub may_look : (st : State) (store label : Bytes) (answer : Answer) → answer ≡ first_of (lookup_refusals st store label) → answer ≡ Done → (damaged st store ≡ false) × (label_ok label ≡ true)
+may_look st store label answer a z = tested (damaged st store) (label_ok label) (ap number_of (sym a ∙ z))
+
+pub not_looked_lem : (st : State) (store r : Bor Bytes) (label : Bytes) (answer : Answer) (number : ℕ) → answer ≡ first_of (lookup_refusals st store.now label) → number ≡ number_of answer
+    → (answer ≡ Done → ⊥) → IsPart store 0 0 r → LooksUp st store label number false r
 unfolding lookup_result
-not_looked_lem st store r label number n z part =
-    let answer : Answer = first_of (lookup_refusals st store.now label) in
-    let is : lookup_result st store.now label ≡ not_looked answer = rw (ne_eqb (number_of answer) 0 (λ e. z (n ∙ e))) in
+not_looked_lem st store r label answer number a n some part =
+    let first : Answer = first_of (lookup_refusals st store.now label) in
+    let done : number_of first ≡ 0 → first ≡ Done = λ z. let m = tested (damaged st store.now) (label_ok label) z in rw (m.0, m.1) in
+    let is : lookup_result st store.now label ≡ not_looked first = rw (ne_eqb (number_of first) 0 (λ z. some (a ∙ done z))) in
     record {
-      answered = n ∙ sym (ap (λ (x : Looked). number_of x.answer) is);
+      answered = n ∙ ap number_of a ∙ sym (ap (λ (x : Looked). number_of x.answer) is);
       listed-is = sym (ap (λ (x : Looked). x.listed) is);
       stretch-is = rw is part;
     }

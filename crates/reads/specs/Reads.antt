@@ -1,21 +1,19 @@
 -- What the calls that only read count on, and what a listing gives, over the parts of a state. n is the length of the set's name.
-use Rattle.std.specs.Prelude.{ℕ, ◌*◌, ◌≤◌, Bool, true, false, not, cond, ◌&&◌, List, [], ◌∷◌, ◌++◌, ◌≡◌, eqb, ltb, length, take}
-use Rattle.std.specs.Borrow.{Bor}
+use Rattle.std.specs.Prelude.{ℕ, ◌*◌, ◌≤◌, Bool, true, false, not, cond, ◌&&◌, List, [], ◌∷◌, ◌≡◌, eqb, ltb, length, take}
 use Rattle.std.proofs.Math.Dec.{compare_is_eq}
 use Rattle.wire.specs.Lists.{any, member}
-use Rattle.wire.specs.Bytes.{Bytes, compare_bytes, IsPart}
+use Rattle.wire.specs.Bytes.{Bytes, compare_bytes}
 use Rattle.dots.specs.declared.Answer.{Answer}
-use Rattle.dots.specs.declared.Answer.TheVariants.{Done, Damaged, OtherSet, OutputShort}
+use Rattle.dots.specs.declared.Answer.TheVariants.{Done, Damaged, BadName, OtherSet, OutputShort}
 use Rattle.dots.specs.Answer.{Refusals}
 use Rattle.dots.specs.declared.Dot.{Dot}
-use Rattle.dots.specs.Names.{Name, Label, name_most, name_ok, label_ok}
+use Rattle.dots.specs.Names.{Name, Label, name_most, name_ok}
 use Rattle.dots.specs.Dots.{compare_dots, ascending_dots, tombstone_most}
-use Rattle.dots.specs.Wire.{dots_of, dot_size}
+use Rattle.dots.specs.Wire.{dots_of, dot_size, tombstone_size}
 use Rattle.dots.specs.Entries.{Entry, Line}
-use Rattle.keys.specs.Entry.{prefix}
 use Rattle.store.specs.Cut.{entries_in}
 use Rattle.store.specs.Valid.{store_most, keys_fit}
-use Rattle.store.specs.Place.{stretch_start, stretch_end, Passed, LabelPassed}
+use Rattle.store.specs.Place.{stretch_end, LabelPassed}
 use Rattle.listing.specs.declared.LinesPut.{LinesPut}
 use Rattle.listing.specs.Listing.{key_lines, StoredKeys}
 use Rattle.calls.specs.declared.Listed.{Listed}
@@ -49,23 +47,25 @@ listed_of put = record { answer = put_answer put; written = put.bytes; labels = 
 unfoldable pub paged_of : LinesPut → Paged
 paged_of put = record { answer = put_answer put; written = put.bytes; labels = put.labels; more = put.more && ltb 0 put.labels }
 
+-- refusals 1 and 5, which a page and a lookup have
+abbrev pub early_refusals : Bool → Bool → Refusals
+early_refusals damage bad = (damage, Damaged) ∷ (bad, BadName) ∷ []
+
 -- ---- page
 
 -- where a page starts: past the keys of its starting label, and at the front for an empty one
 unfoldable pub page_start : Name → Label → Bytes → ℕ
 page_start name start bytes = cond (eqb (length start) 0) 0 (stretch_end name start bytes)
 
--- store and set name of an undamaged state, a starting label, and a number of used bytes that come before all its keys
-pub record Startable (store : Bytes) (used : ℕ) (name : Bytes) (len : ℕ) (start : Label) (low : ℕ) : Type 0 where
-  pub used-fits : used ≤ length store
-  pub name-fits : len ≤ length name
-  pub named : name_ok (take len name) ≡ true
+-- keys and name of a set, a starting label, and a number of bytes that come before all its keys
+pub record Startable (keys : Bytes) (name : Name) (start : Label) (low : ℕ) : Type 0 where
+  pub named : name_ok name ≡ true
   pub started : bad_start start ≡ false
-  pub passed : LabelPassed (take len name) start (take used store) low
+  pub passed : LabelPassed name start keys low
 
--- r is where a page starts in the used part of a store
-abbrev pub IsStart : Bytes → ℕ → Bytes → ℕ → Label → ℕ → Type 0
-IsStart store used name len start r = (r ≡ page_start (take len name) start (take used store)) × (r ≤ used)
+-- r is where a page starts in the keys of a set
+abbrev pub IsStart : Bytes → Name → Label → ℕ → Type 0
+IsStart keys name start r = (r ≡ page_start name start keys) × (r ≤ length keys)
 
 -- ---- merged read
 
@@ -74,21 +74,6 @@ abbrev pub set_refusals : Bool → SetName → SetName → Refusals
 set_refusals damage name given = (damage, Damaged) ∷ (not (compare_is_eq (compare_bytes (take given.len given.bytes) (take name.len name.bytes))), OtherSet) ∷ []
 
 -- ---- lookup
-
--- store and set name of an undamaged state, a label, and a number of used bytes that come before all keys of the label
-pub record Searchable (store : Bytes) (used : ℕ) (name : Bytes) (len : ℕ) (label : Label) (low : ℕ) : Type 0 where
-  pub used-fits : used ≤ length store
-  pub name-fits : len ≤ length name
-  pub named : name_ok (take len name) ≡ true
-  pub labelled : label_ok label ≡ true
-  pub passed : Passed (length (take len name)) (prefix (take len name) ++ label) (take used store) low
-
--- r is the stretch of the label's keys in the used part of a store
-abbrev pub IsStretch : Bor Bytes → ℕ → Bytes → ℕ → Label → Bor Bytes → Type 0
-IsStretch store used name len label r =
-    let text = take len name in
-    let part = take used store.now in
-    IsPart store (stretch_start text label part) (stretch_end text label part) r
 
 -- the dots that a tombstone holds
 abbrev pub removed_dots : Tombstone → List Dot
@@ -100,6 +85,7 @@ pub record LiveTestable (n : ℕ) (keys : Bytes) (tombstone : Tombstone) : Type 
   pub keys-fit : keys_fit n keys ≡ true
   pub few : tombstone.count ≤ tombstone_most
   pub ascends : ascending_dots (removed_dots tombstone) ≡ true
+  pub size : length tombstone.bytes ≡ tombstone_size
 
 -- some key's dot is not in the tombstone
 abbrev pub any_live : ℕ → Bytes → Tombstone → Bool

@@ -3,33 +3,34 @@
 #![tactic(auto)]
 
 ghost use Rattle.std.specs.Prelude.{◌≡◌, false, ◌≤◌, length};
-ghost use Rattle.dots.specs.Answer.{first_of, number_of};
+ghost use Rattle.dots.specs.Answer.{first_of};
 ghost use Rattle.listing.specs.Listing.{PutsWanted};
-ghost use Rattle.steps.specs.Tests.{early_refusals};
-ghost use Rattle.calls.specs.Refusals.{bad_label, bad_start};
-ghost use Rattle.calls.specs.Damage.{damaged};
+ghost use Rattle.calls.specs.Refusals.{bad_start};
 ghost use Rattle.calls.specs.Calls.{list_result, merge_result};
 ghost use Rattle.calls.specs.Promise.{Lists, PagesAfter, LooksUp};
-ghost use Rattle.reads.specs.Reads.{Readable, lines_in, put_answer, listed_of, set_refusals, Startable, IsStart, paged_of, Searchable, IsStretch, LiveTestable, any_live};
+ghost use Rattle.reads.specs.Reads.{Readable, lines_in, put_answer, listed_of, early_refusals, set_refusals, Startable, IsStart, paged_of, LiveTestable, any_live};
 
 // ---- lines put out
 
-// Puts out the lines of keys that fit, with the first count dots of a tombstone; where all are wanted and do not fit, none.
+// Puts out the lines of keys that fit, without the dots of a tombstone; where all are wanted and do not fit, none.
 fn put_used(
     n: usize,
     keys: &[u8],
-    tombstone: &[u8],
-    count: usize,
+    tombstone: &calls::Tombstone,
     all: bool,
     out: &mut [u8],
 ) -> listing::LinesPut
-    requires { Readable n keys.now tombstone.now count }
-    ensures { PutsWanted all (lines_in n keys.now tombstone.now count) out.old out.new result }
+    requires { Readable n keys.now tombstone.now.bytes tombstone.now.count }
+    ensures { PutsWanted all (lines_in n keys.now tombstone.now.bytes tombstone.now.count) out.old out.new result }
 {
-    let size = count * dots::DOT_SIZE;
+    let gone = &tombstone.bytes[..tombstone.count * dots::DOT_SIZE];
     let mut slots = [0u8; slots::SLOTS];
-    slots::fill_slots(&tombstone[..size], &mut slots);
-    listing::put_wanted(n, keys, &tombstone[..size], &slots, all, out)
+    slots::fill_slots(gone, &mut slots);
+    let dead = slots::SlottedDots {
+        dots: gone,
+        slots: &slots,
+    };
+    listing::put_wanted(n, keys, dead, all, out)
 }
 
 // Refusal 13, where lines are left and none was put, else 0.
@@ -55,29 +56,29 @@ fn listed(put: listing::LinesPut) -> calls::Listed
 
 // ---- listing
 
-// Refusal 1.
-fn is_damaged(state: calls::State, store: &[u8]) -> bool
-    ensures { result ≡ damaged state store.now }
-{
-    let head = judging::head_of(state);
-    judging::damaged(head, &state.clock.words, &state.tombstone.bytes, store)
-}
-
 // Lists the labels.
 pub fn list(state: calls::State, store: &[u8], out: &mut [u8]) -> calls::Listed
     ensures { Lists (list_result state store.now out.old) out.new result }
 {
-    if is_damaged(state, store) {
+    if judging::damaged(&state, store) {
         return calls::Listed {
             answer: dots::Answer::Damaged,
             written: 0,
             labels: 0,
         };
     }
-    let n = state.name.len;
-    let used = state.used;
-    let count = state.tombstone.count;
-    listed(put_used(n, &store[..used], &state.tombstone.bytes, count, true, out))
+    let keys = &store[..state.used];
+    listed(put_used(state.name.len, keys, &state.tombstone, true, out))
+}
+
+// The first of the refusals 1 and 5 that holds, else done.
+fn early_refusal(damage: bool, bad: bool) -> dots::Answer
+    ensures { result ≡ first_of (early_refusals damage bad) }
+{
+    dots::first_of(&[
+        (damage, dots::Answer::Damaged),
+        (bad, dots::Answer::BadName),
+    ])
 }
 
 // ---- page
@@ -92,15 +93,15 @@ fn start_bad(start: &[u8]) -> bool
     !dots::label_ok(start)
 }
 
-// Where a page starts in the used part of a store, for a set whose name is the first len bytes.
-fn page_start(store: &[u8], used: usize, name: &[u8], len: usize, start: &[u8], low: usize) -> usize
-    requires { Startable store.now used name.now len start.now low }
-    ensures { IsStart store.now used name.now len start.now result }
+// Where a page starts in the keys of a set, of which the first `low` bytes come before all keys of the starting label.
+fn page_start(keys: &[u8], name: &[u8], start: &[u8], low: usize) -> usize
+    requires { Startable keys.now name.now start.now low }
+    ensures { IsStart keys.now name.now start.now result }
 {
     if start.len() == 0 {
         return 0;
     }
-    let span = store::label_span(&store[..used], &name[..len], start, low);
+    let span = store::label_span(keys, name, start, low);
     span.at + span.len
 }
 
@@ -120,17 +121,9 @@ fn paged(put: listing::LinesPut) -> calls::Paged
 pub fn page(state: calls::State, store: &[u8], start: &[u8], out: &mut [u8]) -> calls::Paged
     ensures { PagesAfter state store.now start.now out.old out.new result }
 {
-    let head = judging::head_of(state);
-    let judged = judging::judge(
-        head,
-        &state.clock.words,
-        &state.tombstone.bytes,
-        store,
-        start,
-    );
-    let bad = start_bad(start);
-    let refusal = steps::early_answer(store::is_damage(judged), bad, false, false, false);
-    if dots::number_of(refusal) != 0 {
+    let judged = judging::judge(&state, store, start);
+    let refusal = early_refusal(judged.is_none(), start_bad(start));
+    if refusal != dots::Answer::Done {
         return calls::Paged {
             answer: refusal,
             written: 0,
@@ -138,35 +131,23 @@ pub fn page(state: calls::State, store: &[u8], start: &[u8], out: &mut [u8]) -> 
             more: false,
         };
     }
-    let name = state.name.bytes;
-    let n = state.name.len;
-    let used = state.used;
-    let from = page_start(store, used, &name, n, start, store::front_of(judged));
-    let count = state.tombstone.count;
-    paged(put_used(
-        n,
-        &store[from..used],
-        &state.tombstone.bytes,
-        count,
-        false,
-        out,
-    ))
+    let name = &state.name.bytes[..state.name.len];
+    let keys = &store[..state.used];
+    let from = page_start(keys, name, start, judged.unwrap_or(0));
+    paged(put_used(state.name.len, &keys[from..], &state.tombstone, false, out))
 }
 
 // ---- merged read
 
 // The first of the refusals 1 and 7 that holds, by whether a state is damaged and by the set names of both.
-fn merge_refusal(damage: bool, name: calls::SetName, given: calls::SetName) -> dots::Answer
-    requires { damage ≡ false → (name.len ≤ length name.bytes) × (given.len ≤ length given.bytes) }
-    ensures { result ≡ first_of (set_refusals damage name given) }
+fn merge_refusal(damage: bool, name: &calls::SetName, given: &calls::SetName) -> dots::Answer
+    requires { damage ≡ false → (name.now.len ≤ length name.now.bytes) × (given.now.len ≤ length given.now.bytes) }
+    ensures { result ≡ first_of (set_refusals damage name.now given.now) }
 {
     if damage {
         return dots::Answer::Damaged;
     }
-    let bytes = name.bytes;
-    let text = given.bytes;
-    let size = given.len;
-    if steps::other_set(&bytes, name.len, &text[..size]) {
+    if steps::other_set(name, &given.bytes[..given.len]) {
         return dots::Answer::OtherSet;
     }
     dots::Answer::Done
@@ -182,12 +163,10 @@ pub fn merge<'a>(
 ) -> calls::Listed
     ensures { Lists (merge_result first a.now second b.now out.old) out.new result }
 {
-    let head = judging::head_of(first);
-    let other = judging::head_of(second);
-    let first_damaged = judging::damaged(head, &first.clock.words, &first.tombstone.bytes, a);
-    let second_damaged = judging::damaged(other, &second.clock.words, &second.tombstone.bytes, b);
-    let refusal = merge_refusal(first_damaged | second_damaged, first.name, second.name);
-    if dots::number_of(refusal) != 0 {
+    let first_damaged = judging::damaged(&first, a);
+    let second_damaged = judging::damaged(&second, b);
+    let refusal = merge_refusal(first_damaged | second_damaged, &first.name, &second.name);
+    if refusal != dots::Answer::Done {
         return calls::Listed {
             answer: refusal,
             written: 0,
@@ -215,40 +194,17 @@ pub fn merge<'a>(
 
 // ---- lookup
 
-// The stretch of a label's keys in the used part of a store, past its first `low` bytes, for a set whose name is the first len bytes.
-fn used_stretch<'a, 'b>(
-    store: &'a [u8],
-    used: usize,
-    name: &'b [u8],
-    len: usize,
-    label: &'b [u8],
-    low: usize,
-) -> &'a [u8]
-    requires { Searchable store.now used name.now len label.now low }
-    ensures { IsStretch store.entry used name.now len label.now result }
-{
-    store::stretch(&store[..used], &name[..len], label, low)
-}
-
 // Whether some key's dot is not in the tombstone.
-fn any_listed(n: usize, keys: &[u8], tombstone: calls::Tombstone) -> bool
-    requires { LiveTestable n keys.now tombstone }
-    ensures { result ≡ any_live n keys.now tombstone }
+fn any_listed(n: usize, keys: &[u8], tombstone: &calls::Tombstone) -> bool
+    requires { LiveTestable n keys.now tombstone.now }
+    ensures { result ≡ any_live n keys.now tombstone.now }
 {
-    let bytes = tombstone.bytes;
     let size = tombstone.count * dots::DOT_SIZE;
-    listing::any_live(n, keys, &bytes[..size])
+    listing::any_live(n, keys, &tombstone.bytes[..size])
 }
 
-// The number of the first refusal of a lookup that holds, else 0. `damage` is refusal 1.
-fn lookup_number(damage: bool, label: &[u8]) -> u8
-    ensures { result ≡ number_of (first_of (early_refusals damage (bad_label label.now) false false false)) }
-{
-    let labelled = dots::label_ok(label);
-    dots::number_of(steps::early_answer(damage, !labelled, false, false, false))
-}
-
-// Looks a label up: hands back the stretch of the lent store that holds its keys.
+// Looks a label up: hands back the stretch of the lent store that holds its keys. `LooksUp` says of a refusal too what number and listed are, so they
+// are written and not returned beside the stretch.
 pub fn lookup<'a>(
     state: calls::State,
     store: &'a [u8],
@@ -258,30 +214,16 @@ pub fn lookup<'a>(
 ) -> &'a [u8]
     ensures { LooksUp state store.entry label.now number.new listed.new result }
 {
-    let head = judging::head_of(state);
-    let judged = judging::judge(
-        head,
-        &state.clock.words,
-        &state.tombstone.bytes,
-        store,
-        label,
-    );
-    let refusal = lookup_number(store::is_damage(judged), label);
-    *number = refusal;
+    let judged = judging::judge(&state, store, label);
+    let refusal = early_refusal(judged.is_none(), !dots::label_ok(label));
+    *number = u8::from(refusal);
     *listed = false;
-    if refusal != 0 {
+    if refusal != dots::Answer::Done {
         return &store[0..0];
     }
-    let name = state.name.bytes;
-    let len = state.name.len;
-    let stretch = used_stretch(
-        store,
-        state.used,
-        &name,
-        len,
-        label,
-        store::front_of(judged),
-    );
-    *listed = any_listed(len, stretch, state.tombstone);
+    let name = &state.name.bytes[..state.name.len];
+    let keys = &store[..state.used];
+    let stretch = store::stretch(keys, name, label, judged.unwrap_or(0));
+    *listed = any_listed(state.name.len, stretch, &state.tombstone);
     stretch
 }

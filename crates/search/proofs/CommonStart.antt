@@ -11,7 +11,7 @@ use Rattle.wire.proofs.ByteOrder.{compare_common}
 use Rattle.wire.proofs.Words.{compare_words, same-part}
 
 -- nothing comes before the empty list
-none-lower : (l : List ℕ) → is_lt (compare_bytes l []) ≡ false
+pub none-lower : (l : List ℕ) → is_lt (compare_bytes l []) ≡ false
 unfolding compare_lists
 none-lower [] = refl
 none-lower (x ∷ l) = refl

@@ -1,5 +1,6 @@
 -- A common start by pieces: pieces of k bytes one after the other, and a last one that ends with a and may overlap them. Assumes nothing.
-use Rattle.std.proofs.Common.{◌≡◌, ℕ, ◌+◌, ◌-◌, ◌<◌, ◌≤◌, Bool, true, false, ◌&&◌, eqb, List, length, take, drop, sym, ap, ◌∙◌, zero-add, arith, length-append, length-drop, take_all, drop-drop, take_at, eq-eqb, eqb-true}
+use Rattle.std.proofs.Common.{◌≡◌, ℕ, ◌+◌, ◌-◌, ◌<◌, ◌≤◌, Bool, true, false, ◌&&◌, eqb, List, [], ◌∷◌, length, take, drop, sym, refl, ap, ap₂, ◌∙◌, zero-add, arith, length-append, length-drop, take_all, drop-drop, take_at, eq-eqb, eqb-true}
+use lib.Pointwise.{pointwise}
 use Rattle.wire.specs.Bytes.{AreBytes, part_at, low_number_at, from_little_endian, starts_with}
 use Rattle.wire.proofs.Tests.{untrue, both_ways, both_left, both_right}
 use Rattle.wire.proofs.Fields.{part-back, part_length}
@@ -9,6 +10,16 @@ use Rattle.wire.proofs.Words.{same_low_part}
 -- bytes that begin with longer ones do not
 pub too_short : (a s : List ℕ) → length s < length a → false ≡ starts_with a s
 too_short a s h = sym (untrue (starts_with a s) (λ t. omega (arith, simp length-append at (ap length (starts-split a s t)))))
+
+-- as std tells it
+turned : (x y : ℕ) → eqb x y ≡ eqb y x
+turned x y = both_ways (eqb x y) (eqb y x) (λ t. eq-eqb y x (sym (eqb-true x y t))) (λ t. eq-eqb x y (sym (eqb-true y x t)))
+
+pub std-starts : (a s : List ℕ) → pointwise eqb a (take (length a) s) ≡ starts_with a s
+unfolding starts_with
+std-starts [] s = refl
+std-starts (x ∷ a) [] = refl
+std-starts (x ∷ a) (y ∷ s) = ap₂ ◌&&◌ (turned x y) (std-starts a s)
 
 -- two words are equal where the bytes are
 pub same_piece : (a s : List ℕ) → AreBytes a → AreBytes s → (k i x y : ℕ) → i + k ≤ length a → i + k ≤ length s → x ≡ low_number_at k s i → y ≡ low_number_at k a i
@@ -64,11 +75,6 @@ module _ (a s : List ℕ) where
           let both = both_left (f && starts_with (part_at a j k) (drop j s)) _ t in
           let there : starts_with (drop j a) (drop j s) ≡ true = by_piece k j l ∙ rw (both_right f _ both, both_right (f && starts_with (part_at a j k) (drop j s)) _ t) in
           e ∙ rw (both_left f _ both, later j i h (omega arith) there)
-
-  -- one piece more
-  pub piece_more : (f : Bool) (k i : ℕ) → i + k ≤ length a → starts_with a s ≡ (f && starts_with (drop i a) (drop i s))
-      → starts_with a s ≡ ((f && starts_with (part_at a i k) (drop i s)) && starts_with (drop (i + k) a) (drop (i + k) s))
-  piece_more f k i h e = piece_on f k i i (omega arith) (omega arith) h e
 
   -- `f` decides up to a place that the last piece reaches: with it, all is decided
   pub piece_last : (f : Bool) (k i : ℕ) → k ≤ length a → length a ≤ i + k → i ≤ length a → starts_with a s ≡ (f && starts_with (drop i a) (drop i s))

@@ -1,13 +1,20 @@
 -- The lowest byte of a word that is 0, found in all bytes at once: by induction on the number of bytes, from the lowest.
 -- With 1 subtracted from every byte, a byte of 0 sets its high bit, which was clear, and borrows from the next. Below the lowest 0 nothing borrows, and no byte sets a high bit that was clear.
 -- Assumes nothing.
-use Rattle.std.proofs.Common.{◌≡◌, ℕ, zero, suc, ◌+◌, ◌-◌, ◌*◌, ◌/◌, ◌%◌, ◌^◌, ◌<◌, ◌≤◌, List, [], ◌∷◌, ◌++◌, length, get_or, take, drop, sym, refl, ap, ◌∙◌, ap₂, mod-lt, mul_assoc, suc-mul, suc-add, pow-suc, zero-add, arith, lit<, w8, Fits}
+use Rattle.std.proofs.Common.{◌≡◌, ℕ, zero, suc, ◌+◌, ◌-◌, ◌*◌, ◌/◌, ◌%◌, ◌^◌, ◌<◌, ◌≤◌, Option, eqb, List, [], ◌∷◌, ◌++◌, length, get_or, take, drop, sym, refl, ap, ◌∙◌, ap₂, mod-lt, mul_assoc, suc-mul, suc-add, pow-suc, zero-add, drop-drop, arith, lit<, w8, Fits}
 use native.Mathlib.Decide.{dec_lt}
+use mir.Syntax.{w64}
+use lib.Dec.{eqb-suc-zero}
+use Rattle.std.specs.Prelude.{unwrap_or}
+use Rattle.std.specs.List.{position_from}
+use Rattle.std.specs.Simd.{first_chunks}
+use Rattle.std.specs.Int.{from_le_bytes}
 use lib.Bits.{bit_and, and_block, and_comm, and_le_l, and_le_r, and_lt, and_shifted, and_step, shifted_even, shifted_half}
 use lib.Count.{count_trailing_zeros, trailing_le, trailing_of_zero, under}
 use Rattle.wire.specs.Bytes.{little_endian, from_little_endian, low_number_at, zero_at}
 use Rattle.search.specs.Marks.{mark_place}
 use Rattle.wire.proofs.LittleEndian.{little_endian-from}
+use Rattle.wire.proofs.StdNumbers.{low_read}
 use Rattle.wire.proofs.Fields.{part-back, part_length, part-written}
 
 -- ---- the first 0 of a list
@@ -22,6 +29,26 @@ pub zero-later : (b : ℕ) (bs : List ℕ) → (b ≡ 0 → ⊥) → zero_at (b 
 unfolding zero_at
 zero-later zero bs e = absurd (e refl)
 zero-later (suc b) bs e = refl
+
+-- as std finds its place, in the bytes from number i on
+zero-found : (s : List ℕ) (i : ℕ) → unwrap_or (position_from (λ b. eqb b 0) i s) (i + length s) ≡ i + zero_at s
+unfolding zero_at
+zero-found [] i = refl
+zero-found (zero ∷ s) i = omega arith
+zero-found (suc b ∷ s) i =
+    let more : i + suc (length s) ≡ i + 1 + length s = omega arith in
+    rw (more, eqb-suc-zero b) (zero-found s (i + 1) ∙ omega arith)
+
+zero_le : (s : List ℕ) → zero_at s ≤ length s
+unfolding zero_at
+zero_le [] = omega arith
+zero_le (zero ∷ s) = omega arith
+zero_le (suc b ∷ s) = omega (arith, zero_le s)
+
+pub zero-position : (s : List ℕ) (o : Option ℕ) (r : ℕ) → o ≡ position_from (λ b. eqb b 0) 0 s → r ≡ unwrap_or o (length s) → (r ≡ zero_at s) × (r ≤ length s)
+zero-position s o r e f =
+    let is : r ≡ zero_at s = f ∙ rw e (rw (zero-add, zero-add) at (zero-found s 0)) in
+    (is, rw is (zero_le s))
 
 -- by the bytes in front: they have the first 0, or are passed over
 zero-within : (l t : List ℕ) → zero_at l < length l → zero_at (l ++ t) ≡ zero_at l
@@ -192,3 +219,16 @@ module _ (s : List ℕ) (known : (k : ℕ) → Fits w8 (get_or s k 0)) (i w z : 
   zero_past_word l =
       rw (← part-back s i 8)
       (omega (arith, zero_beyond (take 8 (drop i s)) (drop (i + 8) s) (omega (arith, word, part_length s i 8 h)), part_length s i 8 h))
+
+-- ---- a list as words of 8 bytes, as std makes them
+
+chunk-at : (k i : ℕ) (d s : List ℕ) → i < k → get_or (first_chunks 8 k s) i d ≡ take 8 (drop (i * 8) s)
+chunk-at zero i d s h = absurd (omega arith)
+chunk-at (suc k) zero d s h = refl
+chunk-at (suc k) (suc i) d s h =
+    let next : 8 + i * 8 ≡ suc i * 8 = omega arith in
+    chunk-at k i d (drop 8 s) (omega arith) ∙ ap (take 8) (drop-drop (i * 8) 8 s ∙ rw next)
+
+pub word-at : (s : List ℕ) (words : List (List ℕ)) (i w : ℕ) (d : List ℕ) → words ≡ first_chunks 8 (length s / 8) s → i < length s / 8 → w ≡ from_le_bytes w64 (get_or words i d)
+    → w ≡ low_number_at 8 s (i * 8)
+word-at s words i w d e h f = low_read w64 s (get_or words i d) (i * 8) w (omega arith) (rw e (chunk-at (length s / 8) i d s h)) f

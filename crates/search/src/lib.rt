@@ -9,31 +9,16 @@ ghost use Rattle.search.specs.Marks.{mark_place};
 
 // ---- order and search, by words of several bytes
 
-// The smaller of two numbers.
-fn smaller(a: usize, b: usize) -> usize
-    ensures { result ≡ min a b }
+// Whether a comes before b, byte by byte.
+fn lower_bytes(a: &[u8], b: &[u8]) -> bool
+    ensures { result ≡ is_lt (compare_bytes a.now b.now) }
 {
-    if a < b { a } else { b }
-}
-
-// Whether a comes before b from a place on.
-fn lower_from(a: &[u8], b: &[u8], from: usize) -> bool
-    requires { (from ≤ length a.now) × (from ≤ length b.now) }
-    ensures { result ≡ is_lt (compare_bytes (drop from a.now) (drop from b.now)) }
-{
-    let mut i = from;
-    while i < a.len() {
-        if b.len() <= i {
-            return false;
+    for (x, y) in a.iter().zip(b) {
+        if *x != *y {
+            return *x < *y;
         }
-        let x = a[i];
-        let y = b[i];
-        if x != y {
-            return x < y;
-        }
-        i += 1;
     }
-    i < b.len()
+    a.len() < b.len()
 }
 
 // Whether a comes before b, where the first 8 bytes are the same and n is the shorter length: by words, the last of which ends at n.
@@ -41,30 +26,29 @@ fn lower_words(a: &[u8], b: &[u8], n: usize) -> bool
     requires { ((8 ≤ n) × (n ≡ min (length a.now) (length b.now))) × (take 8 a.now ≡ take 8 b.now) }
     ensures { result ≡ is_lt (compare_bytes a.now b.now) }
 {
-    let mut i = 8;
-    while i + 8 <= n {
+    for i in (8..n - 7).step_by(8) {
         let x = wire::number_at(a, i);
         let y = wire::number_at(b, i);
         if x != y {
             return x < y;
         }
-        i += 8;
     }
     let x = wire::number_at(a, n - 8);
     let y = wire::number_at(b, n - 8);
     if x != y {
         return x < y;
     }
-    a.len() < b.len()
+    n < b.len()
 }
 
 // Whether a comes before b in byte order. The first word is looked at apart: most labels differ there.
+// By words, since std's order of slices was tried here and is slower: it goes byte by byte.
 pub fn lower(a: &[u8], b: &[u8]) -> bool
     ensures { result ≡ is_lt (compare_bytes a.now b.now) }
 {
-    let n = smaller(a.len(), b.len());
+    let n = a.len().min(b.len());
     if n < 8 {
-        return lower_from(a, b, 0);
+        return lower_bytes(a, b);
     }
     let x = wire::number_at(a, 0);
     let y = wire::number_at(b, 0);
@@ -78,21 +62,21 @@ pub fn lower(a: &[u8], b: &[u8]) -> bool
 pub fn zero_marks(w: u64) -> u64
     ensures { mark_place result ≡ zero_at (little_endian 8 w) }
 {
-    std::num::wrapping_sub_u64(w, 0x0101010101010101) & !w & 0x8080808080808080
+    w.wrapping_sub(0x0101010101010101) & !w & 0x8080808080808080
 }
 
 // The lowest of the marks alone.
 pub fn lowest_mark(marks: u64) -> u64
     ensures { mark_place result ≡ mark_place marks }
 {
-    marks & std::num::wrapping_sub_u64(0, marks)
+    marks & marks.wrapping_neg()
 }
 
 // Which byte has the lowest mark, and 8 if none has.
 pub fn mark_place(marks: u64) -> usize
     ensures { (result ≡ mark_place marks) × (result ≤ 8) }
 {
-    (u64::trailing_zeros(marks) / 8) as usize
+    marks.trailing_zeros() as usize / 8
 }
 
 // The index of the lowest byte of a word that is 0, and 8 if none is.
@@ -102,35 +86,25 @@ fn first_zero(w: u64) -> usize
     mark_place(zero_marks(w))
 }
 
-// The index of the first 0 of s from a place on, or the length of s.
-fn zero_from(s: &[u8], from: usize) -> usize
-    requires { from ≤ length s.now }
-    ensures { (result ≡ from + zero_at (drop from s.now)) × (result ≤ length s.now) }
+// The index of the first 0 of s, or its length, byte by byte.
+fn zero_bytes(s: &[u8]) -> usize
+    ensures { (result ≡ zero_at s.now) × (result ≤ length s.now) }
 {
-    let mut i = from;
-    while i < s.len() {
-        if s[i] == 0 {
-            return i;
-        }
-        i += 1;
-    }
-    i
+    s.iter().position(|b| *b == 0).unwrap_or(s.len())
 }
 
-// The index of the first 0 of s from a place on, or the length of s: by words, the last bytes one by one.
-fn zero_after(s: &[u8], from: usize) -> usize
-    requires { from ≤ length s.now }
-    ensures { (result ≡ from + zero_at (drop from s.now)) × (result ≤ length s.now) }
+// The index of the first 0 of s, or its length: by words, the last bytes one by one. std's position alone was tried here and is slower.
+fn zero_words(s: &[u8]) -> usize
+    ensures { (result ≡ zero_at s.now) × (result ≤ length s.now) }
 {
-    let mut i = from;
-    while i + 8 <= s.len() {
-        let z = first_zero(wire::low_at(s, i));
+    let (words, rest) = s.as_chunks();
+    for (i, word) in words.iter().enumerate() {
+        let z = first_zero(u64::from_le_bytes(*word));
         if z < 8 {
-            return i + z;
+            return i * 8 + z;
         }
-        i += 8;
     }
-    zero_from(s, i)
+    words.len() * 8 + zero_bytes(rest)
 }
 
 // The index of the first 0 of s, or its length. The first word is looked at apart: most labels end there.
@@ -138,13 +112,13 @@ pub fn zero_at(s: &[u8]) -> usize
     ensures { (result ≡ zero_at s.now) × (result ≤ length s.now) }
 {
     if s.len() < 8 {
-        return zero_from(s, 0);
+        return zero_bytes(s);
     }
     let z = first_zero(wire::low_at(s, 0));
     if z < 8 {
         return z;
     }
-    zero_after(s, 8)
+    8 + zero_words(&s[8..])
 }
 
 // The first 0 among 40 bytes from a place on, the first 8 of which have none, and 40 if the others have none.
@@ -152,33 +126,16 @@ pub fn zero_near(s: &[u8], at: usize) -> usize
     requires { (at + 40 ≤ length s.now) × (zero_at (drop at s.now) ≡ 8 + zero_at (drop (at + 8) s.now)) }
     ensures { result ≡ min 40 (zero_at (drop at s.now)) }
 {
-    let mut i = 8;
-    while i < 40 {
+    for i in (8..40).step_by(8) {
         let marks = zero_marks(wire::low_at(s, at + i));
         if marks != 0 {
             return i + mark_place(marks);
         }
-        i += 8;
     }
     40
 }
 
-// Whether s, which is no shorter than a, begins with a from a place on.
-fn starts_from(a: &[u8], s: &[u8], from: usize) -> bool
-    requires { (from ≤ length a.now) × (length a.now ≤ length s.now) }
-    ensures { result ≡ starts_with (drop from a.now) (drop from s.now) }
-{
-    let mut i = from;
-    while i < a.len() {
-        if s[i] != a[i] {
-            return false;
-        }
-        i += 1;
-    }
-    true
-}
-
-// Whether the 4 bytes from a place on are the same in a and s.
+// Whether the 4 bytes from a place on are the same in a and s. Apart from the next function, since a const parameter does not choose the word's type.
 fn same_half(a: &[u8], s: &[u8], at: usize) -> bool
     requires { (at + 4 ≤ length a.now) × (at + 4 ≤ length s.now) }
     ensures { result ≡ starts_with (part_at a.now at 4) (drop at s.now) }
@@ -194,33 +151,17 @@ fn same_word(a: &[u8], s: &[u8], at: usize) -> bool
     wire::low_at(s, at) == wire::low_at(a, at)
 }
 
-// Whether s, which is no shorter, begins with a of 8 bytes or more: by words, the last of which ends with a.
-fn starts_words(a: &[u8], s: &[u8]) -> bool
-    requires { (8 ≤ length a.now) × (length a.now ≤ length s.now) }
-    ensures { result ≡ starts_with a.now s.now }
-{
-    let n = a.len();
-    let mut i = 0;
-    while i + 8 <= n {
-        if !same_word(a, s, i) {
-            return false;
-        }
-        i += 8;
-    }
-    same_word(a, s, n - 8)
-}
-
 // Whether s, which is no shorter, begins with a of 8 to 24 bytes: by three words that may overlap.
 pub fn starts_near(a: &[u8], s: &[u8]) -> bool
     requires { ((8 ≤ length a.now) × (length a.now ≤ 24)) × (length a.now ≤ length s.now) }
     ensures { result ≡ starts_with a.now s.now }
 {
     let last = a.len() - 8;
-    let middle = smaller(8, last);
+    let middle = last.min(8);
     same_word(a, s, 0) & same_word(a, s, middle) & same_word(a, s, last)
 }
 
-// Whether s begins with a. What is asked is short, so up to 24 bytes go with no loop, by pieces that may overlap.
+// Whether s begins with a. What is asked has mostly 4 to 24 bytes, which go by pieces that may overlap: std's loop was tried there and is slower.
 pub fn starts_with(a: &[u8], s: &[u8]) -> bool
     ensures { result ≡ starts_with a.now s.now }
 {
@@ -228,14 +169,9 @@ pub fn starts_with(a: &[u8], s: &[u8]) -> bool
     if s.len() < n {
         return false;
     }
-    if n < 4 {
-        return starts_from(a, s, 0);
+    match n {
+        4..=8 => same_half(a, s, 0) & same_half(a, s, n - 4),
+        9..=24 => starts_near(a, s),
+        _ => s.starts_with(a),
     }
-    if n <= 8 {
-        return same_half(a, s, 0) & same_half(a, s, n - 4);
-    }
-    if n <= 24 {
-        return starts_near(a, s);
-    }
-    starts_words(a, s)
 }

@@ -1,2 +1,2 @@
--- Filling: the slots of a list's dots, set one after the other, and what a slot tells of a dot.
+-- Filling: the slots of a list's dots, set one after the other.
 pub mod Filling

@@ -8,7 +8,7 @@ ghost use Rattle.dots.specs.Dots.{compare_dots, ascending_dots};
 ghost use Rattle.dots.specs.Wire.{dots_of};
 ghost use Rattle.slots.specs.Slots.{slot_of, Slotted, slot_count};
 
-// A table of slots, a byte each: by a counter's remainder, then an actor's.
+// A table of slots, a byte each: by a counter's remainder, then an actor's. Bytes and no `bool`s, since `Slotted` reads it as bytes.
 const COUNTERS: u64 = 64;
 
 const ACTORS: usize = 16;
@@ -29,24 +29,28 @@ pub fn fill_slots(dots: &[u8], slots: &mut Slots)
     requires { length slots.old ≡ slot_count }
     ensures { Slotted (dots_of dots.now) slots.new }
 {
-    let n = dots.len() / dots::DOT_SIZE;
-    let mut i: usize = 0;
-    while i < n {
-        let d = dots::dot_at(dots, i * dots::DOT_SIZE);
-        let at = slot_of(d);
-        slots[at] = 1;
-        i = i + 1;
+    for dot in dots::dots_in(dots) {
+        slots[slot_of(dot)] = 1;
     }
 }
 
-// Whether the dot is one of the ascending dots, whose slots are set.
-pub fn holds_slotted(dots: &[u8], slots: &Slots, dot: dots::Dot) -> bool
-    requires { (ascending_dots (dots_of dots.now) ≡ true) × Slotted (dots_of dots.now) slots.now }
-    ensures { result ≡ member compare_dots dot (dots_of dots.now) }
-{
-    let at = slot_of(dot);
-    if slots[at] == 0 {
-        return false;
+// Ascending dots, nine bytes each, and a table in which their slots are set.
+#[derive(Clone, Copy)]
+pub struct SlottedDots<'a> {
+    pub dots: &'a [u8],
+    pub slots: &'a Slots,
+    pub ghost ascending: { ascending_dots (dots_of dots.now) ≡ true },
+    pub ghost slotted: { Slotted (dots_of dots.now) slots.now },
+}
+
+impl<'a> SlottedDots<'a> {
+    // Whether the dot is one of the dots.
+    pub fn holds(self, dot: dots::Dot) -> bool
+        ensures { result ≡ member compare_dots dot (dots_of self.entry.dots.now) }
+    {
+        if self.slots[slot_of(dot)] == 0 {
+            return false;
+        }
+        contexts::holds_dot(self.dots, dot)
     }
-    contexts::holds_dot(dots, dot)
 }

@@ -1,6 +1,6 @@
 -- Adds, own or taken in: what applying one leaves, and refusal 12 as the code tests it. Assumes nothing.
 use Prim.Native.Nat.{ℕ, ◌+◌}
-use mathlib.Core.Path.{◌≡◌, refl, sym, subst, ◌∙◌}
+use mathlib.Core.Path.{◌≡◌, refl, sym, ◌∙◌}
 use mathlib.Core.Logic.{◌⊎◌, inl, inr}
 use mathlib.Core.Bool.{Bool, true, false, not, cond, ◌&&◌, or-false}
 use mathlib.Core.List.{List, [], ◌∷◌}
@@ -27,11 +27,11 @@ use Rattle.keys.proofs.EntryKeys.{length_entry_key}
 use Rattle.store.specs.Place.{inserted_entry}
 use Rattle.replica.specs.Machine.{if_unseen}
 use Rattle.calls.specs.declared.State.{State}
-use Rattle.calls.specs.declared.Head.{Head}
-use Rattle.calls.specs.State.{clock_model, name_of, head_of, view, Sized}
+use Rattle.calls.specs.declared.Tombstone.{Tombstone}
+use Rattle.calls.specs.State.{clock_model, name_of, view, Sized}
 use Rattle.calls.specs.Effect.{tombstone_of}
 use Rattle.calls.specs.Refusals.{store_full}
-use Rattle.steps.specs.Tests.{head_name, state_with, next_tombstone, MayApply, MayRemove, TombstoneTakes, Joined, EntryFits, MayStore, Stored, Applied, removed_state}
+use Rattle.steps.specs.Tests.{state_with, next_tombstone, MayApply, MayRemove, TombstoneTakes, Joined, MayStore, Stored, Applied, removed_state}
 use Rattle.judging.specs.Judging.{state_ok, LowPart}
 use Rattle.calls.proofs.Clauses.{Undamaged, undamaged}
 use Rattle.steps.proofs.Performed.{seen-state, seen-store, stored-state, stored-store}
@@ -54,13 +54,13 @@ store-full st store label d named = by (sees st.clock.words d)
     by false = rw (length_entry_key, named) (or-false _)
 
 -- the key of an add is put where its dot was not seen
-module _ (head : Head) (r seen : Bool) (store label : Bytes) (d : Dot) (e : r ≡ seen) where
-  pub stored-none : r ≡ true → Stored head seen store label d store head.used
+module _ (st : State) (r seen : Bool) (store label : Bytes) (d : Dot) (e : r ≡ seen) where
+  pub stored-none : r ≡ true → Stored st seen store label d store st.used
   stored-none t = let known : seen ≡ true = sym e ∙ t in record { used-is = rw known; store_is = rw known }
 
-  pub stored_one : r ≡ false → (store' : Bytes) (used' : ℕ) → length (head_name head) ≡ head.name.len
-      → used' ≡ head.used + (length (head_name head) + length label + label_key_fixed)
-      → store' ≡ inserted_entry (head_name head) store head.used (entry label d) → Stored head seen store label d store' used'
+  pub stored_one : r ≡ false → (store' : Bytes) (used' : ℕ) → length (name_of st) ≡ st.name.len
+      → used' ≡ st.used + (length (name_of st) + length label + label_key_fixed)
+      → store' ≡ inserted_entry (name_of st) store st.used (entry label d) → Stored st seen store label d store' used'
   stored_one t store' used' named f g = let new : seen ≡ false = sym e ∙ t in record { used-is = f ∙ rw (new, named); store_is = g ∙ rw new }
 
 module _ (st : State) (store label context : Bytes) (d : Dot) (m : MayApply st store label context d) where
@@ -74,19 +74,17 @@ module _ (st : State) (store label context : Bytes) (d : Dot) (m : MayApply st s
   named = name-length st m.sized m.joins.state-ok
 
   -- what putting its key counts on
-  pub may-store : (h : Head) → h ≡ head_of st → (low : ℕ) → LowPart st store label low → MayStore h (sees st.clock.words d) store label low
-  may-store h is low front unseen =
+  pub may-store : (low : ℕ) → LowPart st store label low → MayStore st (sees st.clock.words d) store label low
+  may-store low front unseen =
       let k = kept st m.joins.state-ok in
-      let size = m.sized.name-size in
-      let short = k.short in
-      subst (λ (x : Head). EntryFits x store label low) (sym is)
-      (record {
-        short = omega arith;
+      record {
+        size = m.sized.name-size;
+        short = k.short;
         named = k.named;
         labelled = m.labelled;
         room_for = m.room_for unseen;
         front = front;
-      })
+      }
 
   -- what joining its context and its dot counts on
   pub may_join_add : ((j : ℕ) → Fits w8 (get_or st.tombstone.bytes j 0))
@@ -97,19 +95,19 @@ module _ (st : State) (store label context : Bytes) (d : Dot) (m : MayApply st s
       ((padded-tombstone st k m.sized small, j.fits, j.few), (m.sized.words_size, offer-with st k context d j.fits j.dot-ok j.new, j.close))
 
   -- what is left where the key was put and context and dot were joined
-  pub apply_leaves : (h : Head) → h ≡ head_of st → (store' : Bytes) (used' : ℕ) → Stored h (sees st.clock.words d) store label d store' used'
-      → (words' : List ℕ) (bytes' : Bytes) (count' : ℕ) → Joined st.clock.words st.tombstone.bytes st.tombstone.count context (d ∷ dots_of context) words' bytes' count'
-      → Applied st store label context d store' (state_with st words' (record { bytes = bytes'; count = count' }) used')
-  apply_leaves h is store' used' put words' bytes' count' joined =
-      by (decided (sees st.clock.words d)) (subst (λ (x : Head). Stored x (sees st.clock.words d) store label d store' used') is put)
+  pub apply_leaves : (store' : Bytes) (used' : ℕ) → Stored st (sees st.clock.words d) store label d store' used'
+      → (words' : List ℕ) (tombstone' : Tombstone) → Joined st.clock.words st.tombstone context (d ∷ dots_of context) words' tombstone'
+      → Applied st store label context d store' (state_with st words' tombstone' used')
+  apply_leaves store' used' put words' tombstone' joined =
+      by (decided (sees st.clock.words d)) put
     where
       r : State
-      r = state_with st words' (record { bytes = bytes'; count = count' }) used'
+      r = state_with st words' tombstone' used'
 
       ended_is : r ≡ state_with st (join_all window_width st.clock.words (d ∷ dots_of context)) (tombstone_of (next_tombstone st (dots_of context))) used'
       ended_is = with-parts st _ _ _ _ used' r joined.clock-is (tombstone-made _ _ _ joined.tombstone-is.0 joined.tombstone-is.1) refl
 
-      by : (sees st.clock.words d ≡ true) ⊎ (sees st.clock.words d ≡ false) → Stored (head_of st) (sees st.clock.words d) store label d store' used' → Applied st store label context d store' r
+      by : (sees st.clock.words d ≡ true) ⊎ (sees st.clock.words d ≡ false) → Stored st (sees st.clock.words d) store label d store' used' → Applied st store label context d store' r
       by (inl known) s =
           let kept-used : used' ≡ st.used = rw known at s.used-is in
           let kept_store : store' ≡ store = rw known at s.store_is in (
@@ -132,6 +130,6 @@ module _ (st : State) (context : Bytes) where
       let k = kept st m.state-ok in
       ((padded-tombstone st k m.sized small, m.fits, m.few), (m.sized.words_size, offer st k context m.fits, m.close))
 
-  pub remove_leaves : (words' : List ℕ) (bytes' : Bytes) (count' : ℕ) → Joined st.clock.words st.tombstone.bytes st.tombstone.count context (dots_of context) words' bytes' count'
-      → state_with st words' (record { bytes = bytes'; count = count' }) st.used ≡ removed_state st (dots_of context)
-  remove_leaves words' bytes' count' joined = with-parts st _ _ _ _ st.used _ joined.clock-is (tombstone-made _ _ _ joined.tombstone-is.0 joined.tombstone-is.1) refl
+  pub remove_leaves : (words' : List ℕ) (tombstone' : Tombstone) → Joined st.clock.words st.tombstone context (dots_of context) words' tombstone'
+      → state_with st words' tombstone' st.used ≡ removed_state st (dots_of context)
+  remove_leaves words' tombstone' joined = with-parts st _ _ _ _ st.used _ joined.clock-is (tombstone-made _ _ _ joined.tombstone-is.0 joined.tombstone-is.1) refl

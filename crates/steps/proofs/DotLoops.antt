@@ -1,13 +1,13 @@
--- Loops over dots in bytes: a test of some dot, and a count of those that pass. Assumes nothing.
-use Prim.Native.Nat.{ℕ, zero, suc, ◌+◌, ◌*◌, ◌/◌, ◌≤◌, ◌<◌, ◌^◌}
-use mathlib.Core.Bool.{Bool, true, false, cond, ◌||◌, or-false, or_assoc}
+-- Dots in bytes have counters that fit in 8 bytes. Assumes nothing.
+use Prim.Native.Nat.{ℕ, zero, suc, ◌+◌, ◌/◌, ◌≤◌, ◌<◌, ◌^◌}
+use mathlib.Core.Bool.{false}
 use mathlib.Core.List.Memᴰ
 use mathlib.Core.List.{List}
 use mathlib.Core.Logic.{◌⊎◌, inl, inr}
-use mathlib.Core.Path.{◌≡◌, refl, sym, ap, ◌∙◌}
+use mathlib.Core.Path.{◌≡◌, sym}
 use native.Mathlib.Omega.{arith}
 use lib.ListN.{length, take, drop, length-take}
-use Rattle.wire.specs.Lists.{◌∈◌, any, keep, member}
+use Rattle.wire.specs.Lists.{◌∈◌, member}
 use Rattle.wire.specs.Bytes.{AreBytes, number_at}
 use Rattle.wire.proofs.Tests.{untrue, pass}
 use Rattle.wire.proofs.Lists.{member-sound}
@@ -18,43 +18,6 @@ use Rattle.dots.specs.declared.Dot.{Dot}
 use Rattle.dots.specs.Dots.{dot_of, compare_dots}
 use Rattle.dots.specs.Wire.{dot_at, dots_at, dots_of, dot_size}
 use Rattle.dots.proofs.Orders.{dots}
-use Rattle.dots.proofs.Loops.{left, dots-start, dots-next, dots-none}
-
-module _ (p : Dot → Bool) (s : List ℕ) where
-  pub any-start : any p (dots_of s) ≡ any p (left s 0)
-  any-start = ap (any p) (sym (dots-start s))
-
-  pub count-start : length (keep p (dots_of s)) ≡ 0 + length (keep p (left s 0))
-  count-start = let same = ap (λ (ds : List Dot). length (keep p ds)) (dots-start s) in omega arith
-
-  module _ (i : ℕ) where
-    pub any-turn : (whole found : Bool) → whole ≡ (found || any p (left s i)) → (d : Dot) (t : Bool) → i < length s / dot_size → d ≡ dot_at s (i * dot_size) → t ≡ p d
-        → whole ≡ ((found || t) || any p (left s (i + 1)))
-    unfolding any
-    any-turn whole found inv d t h e f = (rw (dots-next s i h) at inv) ∙ rw (f, e) (sym (or_assoc found (p (dot_at s (i * dot_size))) (any p (left s (i + 1)))))
-
-    pub any-end : (whole found : Bool) → whole ≡ (found || any p (left s i)) → length s / dot_size ≤ i → found ≡ whole
-    unfolding any
-    any-end whole found inv h = sym (rw (dots-none s i h, or-false) at inv)
-
-    module _ (whole count : ℕ) (inv : whole ≡ count + length (keep p (left s i))) where
-      pub count_turn : (d : Dot) (t : Bool) (k : ℕ) → i < length s / dot_size → d ≡ dot_at s (i * dot_size) → t ≡ p d → k ≡ cond t 1 0 → whole ≡ count + k + length (keep p (left s (i + 1)))
-      unfolding keep
-      count_turn d t k h e f g = by (p (dot_at s (i * dot_size))) refl
-        where
-          by : (b : Bool) → p (dot_at s (i * dot_size)) ≡ b → whole ≡ count + k + length (keep p (left s (i + 1)))
-          by true q =
-              let one : k ≡ 1 = g ∙ ap (λ (x : Bool). cond x 1 0) (f ∙ ap p e ∙ q) in
-              let more : length (keep p (left s i)) ≡ 1 + length (keep p (left s (i + 1))) = rw (dots-next s i h, q) (omega arith) in
-              omega arith
-          by false q =
-              let none : k ≡ 0 = g ∙ ap (λ (x : Bool). cond x 1 0) (f ∙ ap p e ∙ q) in
-              let same : length (keep p (left s i)) ≡ length (keep p (left s (i + 1))) = rw (dots-next s i h, q) in
-              omega arith
-
-      pub count-end : length s / dot_size ≤ i → count ≡ whole
-      unfolding keep
-      count-end h = let none : length (keep p (left s i)) ≡ 0 = rw (dots-none s i h) in omega arith
 
 -- a counter in 8 bytes is no more than the largest
 counter-bounded : (s : List ℕ) → AreBytes s → (n at : ℕ) (d : Dot) → d ∈ dots_at n s at → d.counter.number < 2 ^ 64

@@ -1,9 +1,9 @@
 -- The tombstone's bytes with more dots put in: its dots, and zeros past them. Assumes nothing.
 use mathlib.Core.Path.{◌≡◌, refl, sym, ap, ◌∙◌, subst}
 use mathlib.Core.Logic.{⊎_elim}
-use mathlib.Core.Bool.{Bool, true, false, cond}
+use mathlib.Core.Bool.{Bool, true, false, cond, ◌&&◌}
 use mathlib.Core.List.{List, [], ◌∷◌, ◌++◌}
-use Prim.Native.Nat.{ℕ, zero, suc, ◌+◌, ◌-◌, ◌*◌, ◌/◌, ◌≤◌, ◌<◌, Ordering}
+use Prim.Native.Nat.{ℕ, suc, ◌+◌, ◌-◌, ◌*◌, ◌≤◌, Ordering}
 use native.Mathlib.Nat.{le_trans}
 use native.Mathlib.Omega.{arith}
 use lib.ListN.{length, take, drop, replicate, length-append, length-replicate}
@@ -14,16 +14,16 @@ use Rattle.wire.proofs.Lists.{all-member, member-all, insert-member, ascending-i
 use Rattle.wire.proofs.Fields.{drop-zeros}
 use Rattle.dots.specs.declared.Dot.{Dot}
 use Rattle.dots.specs.Dots.{compare_dots, dot_ok, ascending_dots, tombstone_most}
-use Rattle.dots.specs.Wire.{dot_at, dots_at, dots_bytes, dots_of, dot_size, tombstone_size}
+use Rattle.dots.specs.Wire.{dots_bytes, dots_of, dot_size, tombstone_size}
 use Rattle.dots.proofs.Orders.{dots}
 use Rattle.dots.proofs.Rules.{ascending-valid, ascending_up, up_ascending}
-use Rattle.dots.proofs.Loops.{left, dots-next, length-dots_at}
+use Rattle.dots.proofs.Loops.{left, length-dots_at}
 use Rattle.dots.proofs.RoundTrip.{length-dots}
 use Rattle.clock.specs.Clock.{sees}
 use Rattle.contexts.proofs.Places.{dots-front}
 use Rattle.calls.specs.declared.Tombstone.{Tombstone}
 use Rattle.calls.specs.Effect.{padded, tombstone_of}
-use Rattle.steps.specs.Tests.{Padded, ContextFits}
+use Rattle.steps.specs.Tests.{Padded, with_dot, with_seen}
 use Rattle.calls.proofs.Reading.{tombstone-read}
 
 -- padded bytes of a list of dots, and as many, are its tombstone
@@ -107,41 +107,34 @@ unfolding insert_all
 insert_all-longer [] ys = omega arith
 insert_all-longer (x ∷ xs) ys = le_trans (insert-longer x ys) (insert_all-longer xs (insert compare_dots x ys))
 
-module _ (words context : List ℕ) (i : ℕ) (ds final : List Dot) (fits : ContextFits context) (h : i < length context / dot_size)
-    (inv : insert_all compare_dots (keep (sees words) (left context i)) ds ≡ final) (few : length final ≤ tombstone_most) where
-  abbrev dot : Dot
-  dot = dot_at context (i * dot_size)
-
-  abbrev step : List Dot
-  step = cond (sees words (dot_at context (i * dot_size))) (insert compare_dots (dot_at context (i * dot_size)) ds) ds
-
-  pub tombstone-next : insert_all compare_dots (keep (sees words) (left context (i + 1))) step ≡ final
+module _ (words : List ℕ) (left more ds final : List Dot) (d : Dot) (e : left ≡ d ∷ more) (inv : with_seen words left ds ≡ final) where
+  pub tombstone-next : with_seen words more (with_dot words d ds) ≡ final
   unfolding keep insert_all
-  tombstone-next = by (sees words dot) refl
+  tombstone-next = by (sees words d) refl
     where
-      whole : insert_all compare_dots (cons_if (sees words (dot_at context (i * dot_size))) (dot_at context (i * dot_size)) (keep (sees words) (left context (i + 1)))) ds ≡ final
-      whole = ap (λ (l : List Dot). insert_all compare_dots (keep (sees words) l) ds) (sym (dots-next context i h)) ∙ inv
+      whole : insert_all compare_dots (cons_if (sees words d) d (keep (sees words) more)) ds ≡ final
+      whole = ap (λ (l : List Dot). insert_all compare_dots (keep (sees words) l) ds) (sym e) ∙ inv
 
-      by : (b : Bool) → sees words (dot_at context (i * dot_size)) ≡ b → insert_all compare_dots (keep (sees words) (left context (i + 1))) (cond (sees words (dot_at context (i * dot_size))) (insert compare_dots (dot_at context (i * dot_size)) ds) ds) ≡ final
-      by true e = rw e (rw e at whole)
-      by false e = rw e (rw e at whole)
+      by : (b : Bool) → sees words d ≡ b → insert_all compare_dots (keep (sees words) more) (cond (sees words d) (insert compare_dots d ds) ds) ≡ final
+      by true q = rw q (rw q at whole)
+      by false q = rw q (rw q at whole)
 
   -- what is put in meanwhile is no more than what all of it is in the end
-  pub tombstone-room : length step ≤ tombstone_most
-  tombstone-room = le_trans (insert_all-longer (keep (sees words) (left context (i + 1))) step) (subst (λ (l : List Dot). length l ≤ tombstone_most) (sym tombstone-next) few)
+  pub tombstone-room : length final ≤ tombstone_most → length (with_dot words d ds) ≤ tombstone_most
+  tombstone-room few = le_trans (insert_all-longer (keep (sees words) more) (with_dot words d ds)) (subst (λ (l : List Dot). length l ≤ tombstone_most) (sym tombstone-next) few)
 
--- the dots of a list in bytes, one by one
-dots_each : (s : List ℕ) (n at i : ℕ) → i < n → all dot_ok (dots_at n s at) ≡ true → dot_ok (dot_at s (at + i * dot_size)) ≡ true
-unfolding dots_at all
-dots_each s zero at i h ok = absurd (omega arith)
-dots_each s (suc n) at zero h ok = let same : at + 0 * dot_size ≡ at = omega arith in rw same (both_left (dot_ok (dot_at s at)) (all dot_ok (dots_at n s (at + dot_size))) ok)
-dots_each s (suc n) at (suc i) h ok =
-    let same : at + suc i * dot_size ≡ at + dot_size + i * dot_size = omega arith in
-    rw same (dots_each s n (at + dot_size) i (omega arith) (both_right (dot_ok (dot_at s at)) (all dot_ok (dots_at n s (at + dot_size))) ok))
+pub tombstone-end : (words : List ℕ) (left ds final : List Dot) → left ≡ [] → with_seen words left ds ≡ final → ds ≡ final
+unfolding keep insert_all
+tombstone-end words left ds final e inv = rw e at inv
 
--- a dot of a context keeps its rule
-pub context-dot : (context : List ℕ) (i : ℕ) → ContextFits context → i < length context / dot_size → dot_ok (dot_at context (i * dot_size)) ≡ true
-unfolding dots_of
-context-dot context i fits h =
-    let same : 0 + i * dot_size ≡ i * dot_size = omega arith in
-    rw same at (dots_each context (length context / dot_size) 0 i h (ascending-valid (dots_of context) fits.ascends))
+-- the dots that are left keep their rule
+module _ (left more : List Dot) (d : Dot) (e : left ≡ d ∷ more) (ok : all dot_ok left ≡ true) where
+  whole-valid : (dot_ok d && all dot_ok more) ≡ true
+  unfolding all
+  whole-valid = rw e at ok
+
+  pub first-valid : dot_ok d ≡ true
+  first-valid = both_left (dot_ok d) (all dot_ok more) whole-valid
+
+  pub rest-valid : all dot_ok more ≡ true
+  rest-valid = both_right (dot_ok d) (all dot_ok more) whole-valid

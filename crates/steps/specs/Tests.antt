@@ -1,15 +1,15 @@
 -- What the steps test and count on: tests of the table as the code groups them, and the changes that they make.
-use Rattle.std.specs.Prelude.{ℕ, ◌+◌, ◌*◌, ◌%◌, ◌≤◌, Bool, true, false, not, cond, ◌&&◌, List, [], ◌∷◌, ◌≡◌, leb, ltb, length, take}
+use Rattle.std.specs.Prelude.{ℕ, ◌+◌, ◌*◌, ◌%◌, ◌≤◌, Bool, true, false, not, cond, ◌&&◌, List, [], ◌∷◌, ◌≡◌, eqb, leb, ltb, length, take, Result, Ok, Err}
 use Rattle.std.proofs.Math.Dec.{compare_is_eq}
 use Rattle.wire.specs.Lists.{keep, member, insert, insert_all}
 use Rattle.wire.specs.Bytes.{Bytes}
-use Rattle.dots.specs.Answer.{Refusals, first_of}
+use Rattle.dots.specs.Answer.{number_of, Refusals, first_of}
 use Rattle.dots.specs.declared.Answer.{Answer}
 use Rattle.dots.specs.declared.Answer.TheVariants.{Done, Damaged, BadName, BadDot, OwnAhead, CounterEnd, TooFar, TombstoneFull, StoreFull, OutputShort}
 use Rattle.dots.specs.Wire.{dots_bytes, dots_of, dot_size, tombstone_size}
 use Rattle.dots.specs.declared.Actor.{Actor}
 use Rattle.dots.specs.declared.Dot.{Dot}
-use Rattle.dots.specs.Names.{Name, Label, name_ok, label_ok}
+use Rattle.dots.specs.Names.{Label, name_ok, label_ok, name_most}
 use Rattle.dots.specs.Entries.{entry}
 use Rattle.dots.specs.Dots.{Context, dot_of, dot_ok, compare_actors, compare_dots, ascending_dots, context_most, tombstone_most}
 use Rattle.clock.specs.Row.{window_width}
@@ -18,20 +18,18 @@ use Rattle.store.specs.Place.{inserted_entry, LabelPassed}
 use Rattle.replica.specs.Machine.{apply, if_unseen}
 use Rattle.store.specs.Valid.{store_most}
 use Rattle.calls.specs.declared.State.{State}
-use Rattle.calls.specs.declared.Head.{Head}
-use Rattle.steps.specs.declared.Room.{Room}
 use Rattle.steps.specs.declared.Lent.{Lent}
 use Rattle.calls.specs.declared.Tombstone.{Tombstone}
 use Rattle.calls.specs.declared.Outcome.{Outcome}
-use Rattle.calls.specs.State.{clock_model, Machine, tombstone_dots, view, Sized}
+use Rattle.calls.specs.State.{clock_model, Machine, name_of, tombstone_dots, view, Sized}
 use Rattle.calls.specs.Damage.{damaged}
 use Rattle.calls.specs.Effect.{padded, tombstone_of, state_of, store_of}
 use Rattle.keys.specs.Key.{label_key_fixed}
 use Rattle.judging.specs.Judging.{state_ok}
 
--- the name of the set that a head is of
-abbrev pub head_name : Head → Name
-head_name head = take head.name.len head.name.bytes
+-- what a table's answer lets a call do: to go on, or to answer it
+abbrev pub passed : Answer → Result Unit Answer
+passed a = cond (eqb (number_of a) 0) (Ok tt) (Err a)
 
 -- a dot of the own actor above the own base
 abbrev pub ahead_of : Actor → ℕ → Dot → Bool
@@ -88,9 +86,9 @@ late_refusals far tombstone store output = (far, TooFar) ∷ (tombstone, Tombsto
 
 -- the later ones of an add and of a remove, own or taken in, over the clock's words and the tombstone's dots; short says whether the output is shorter than
 -- the message
-abbrev pub add_tests : List ℕ → List Dot → Dot → Context → Room → Refusals
-add_tests words tombstone d context room =
-    late_refusals (not (near window_width words (d ∷ context))) (ltb tombstone_most (length (with_seen words context tombstone))) (not (sees words d) && room.crowded) room.short
+abbrev pub add_tests : List ℕ → List Dot → Dot → Context → Bool → Bool → Refusals
+add_tests words tombstone d context crowded short =
+    late_refusals (not (near window_width words (d ∷ context))) (ltb tombstone_most (length (with_seen words context tombstone))) (not (sees words d) && crowded) short
 
 abbrev pub remove_tests : List ℕ → List Dot → Context → Bool → Refusals
 remove_tests words tombstone context short = late_refusals (not (near window_width words context)) (ltb tombstone_most (length (with_seen words context tombstone))) false short
@@ -98,14 +96,14 @@ remove_tests words tombstone context short = late_refusals (not (near window_wid
 -- those of a state, for a store of so many bytes
 abbrev pub add_late : State → ℕ → Label → Dot → Context → Bool → Refusals
 add_late st size label d context short =
-    add_tests st.clock.words (tombstone_dots st) d context (record { crowded = ltb size (st.used + (st.name.len + length label + label_key_fixed)); short = short })
+    add_tests st.clock.words (tombstone_dots st) d context (ltb size (st.used + (st.name.len + length label + label_key_fixed))) short
 
 abbrev pub remove_late : State → Context → Bool → Refusals
 remove_late st context short = remove_tests st.clock.words (tombstone_dots st) context short
 
 -- the answer of a call that is lent a store and an output of these lengths, where it is told whether refusal 1 holds
-abbrev pub Answers : State → Lent → (Bytes → Bytes → Refusals) → Answer → Type 0
-Answers st lent refusals r = (store out : Bytes) → length store ≡ lent.store → length out ≡ lent.out → lent.damage ≡ damaged st store → r ≡ first_of (refusals store out)
+abbrev pub Answers : State → Lent → (Bytes → Bytes → Refusals) → Result Unit Answer → Type 0
+Answers st lent refusals r = (store out : Bytes) → length store ≡ lent.store → length out ≡ lent.out → lent.damage ≡ damaged st store → r ≡ passed (first_of (refusals store out))
 
 -- some store is lent of which this holds
 pub record Told (st : State) (lent : Lent) : Type 0 where
@@ -165,25 +163,26 @@ abbrev pub TombstoneTakes : List ℕ → Bytes → ℕ → Bytes → Type 0
 TombstoneTakes words bytes count context = Padded bytes count × ContextFits context × (length (with_seen words (dots_of context) (held_dots bytes count)) ≤ tombstone_most)
 
 -- the clock has joined these dots, and the tombstone has those of the context that the clock had seen
-pub record Joined (words : List ℕ) (bytes : Bytes) (count : ℕ) (context : Bytes) (ds : List Dot) (words' : List ℕ) (bytes' : Bytes) (count' : ℕ) : Type 0 where
+pub record Joined (words : List ℕ) (tombstone : Tombstone) (context : Bytes) (ds : List Dot) (words' : List ℕ) (tombstone' : Tombstone) : Type 0 where
   pub clock-is : words' ≡ join_all window_width words ds
-  pub tombstone-is : TombstoneIs bytes' count' (with_seen words (dots_of context) (held_dots bytes count))
+  pub tombstone-is : TombstoneIs tombstone'.bytes tombstone'.count (with_seen words (dots_of context) (held_dots tombstone.bytes tombstone.count))
 
 -- what the key of a label counts on that is put into a store; the keys of the label do not stand in its first `low` bytes
-pub record EntryFits (head : Head) (store label : Bytes) (low : ℕ) : Type 0 where
-  pub short : head.name.len ≤ length head.name.bytes
-  pub named : name_ok (head_name head) ≡ true
+pub record EntryFits (st : State) (store label : Bytes) (low : ℕ) : Type 0 where
+  pub size : length st.name.bytes ≡ name_most
+  pub short : st.name.len ≤ name_most
+  pub named : name_ok (name_of st) ≡ true
   pub labelled : label_ok label ≡ true
-  pub room_for : head.used + (head.name.len + length label + label_key_fixed) ≤ length store
-  pub front : LabelPassed (head_name head) label (take head.used store) low
+  pub room_for : st.used + (st.name.len + length label + label_key_fixed) ≤ length store
+  pub front : LabelPassed (name_of st) label (take st.used store) low
 
-abbrev pub MayStore : Head → Bool → Bytes → Bytes → ℕ → Type 0
-MayStore head seen store label low = seen ≡ false → EntryFits head store label low
+abbrev pub MayStore : State → Bool → Bytes → Bytes → ℕ → Type 0
+MayStore st seen store label low = seen ≡ false → EntryFits st store label low
 
 -- the key of an add was put in its place, unless its dot was seen
-pub record Stored (head : Head) (seen : Bool) (store label : Bytes) (d : Dot) (store' : Bytes) (used' : ℕ) : Type 0 where
-  pub used-is : used' ≡ cond seen head.used (head.used + (head.name.len + length label + label_key_fixed))
-  pub store_is : store' ≡ cond seen store (inserted_entry (head_name head) store head.used (entry label d))
+pub record Stored (st : State) (seen : Bool) (store label : Bytes) (d : Dot) (store' : Bytes) (used' : ℕ) : Type 0 where
+  pub used-is : used' ≡ cond seen st.used (st.used + (st.name.len + length label + label_key_fixed))
+  pub store_is : store' ≡ cond seen store (inserted_entry (name_of st) store st.used (entry label d))
 
 -- the state after a context alone
 abbrev pub removed_state : State → Context → State

@@ -1,5 +1,5 @@
 -- The front part of keys that comes before all keys that begin alike, and what one pass over the keys tells of it. Assumes nothing.
-use Rattle.std.proofs.Common.{◌≡◌, ℕ, ◌+◌, ◌-◌, ◌<◌, Bool, true, false, cond, List, [], ◌∷◌, ◌++◌, length, take, drop, sym, refl, ap, ◌∙◌, inl, inr, true≢false, zero-add, arith}
+use Rattle.std.proofs.Common.{◌≡◌, ℕ, ◌+◌, ◌-◌, ◌<◌, Bool, true, false, cond, Option, None, Some, List, [], ◌∷◌, ◌++◌, length, take, drop, sym, refl, ap, ◌∙◌, inl, inr, true≢false, zero-add, arith}
 use Prim.Native.Nat.{compare, Ordering}
 use mathlib.Core.Bool.{false≢true}
 use Rattle.wire.specs.Lists.{then, is_lt, compare_lists}
@@ -10,8 +10,6 @@ use Rattle.wire.proofs.Parts.{rest_part, size-part}
 use Rattle.dots.specs.Names.{Name, Label}
 use Rattle.keys.specs.Entry.{prefix}
 use Rattle.store.specs.declared.KeyTail.{KeyTail}
-use Rattle.store.specs.declared.Judgement.{Judgement}
-use Rattle.store.specs.declared.Judgement.TheVariants.{Damaged, Sound}
 use Rattle.store.specs.Cut.{key_length}
 use Rattle.store.specs.Place.{lower_than, Passed, LabelPassed, Judged}
 use Rattle.store.specs.Front.{tail_of}
@@ -66,12 +64,12 @@ passed-next name words label keys last low r (inr h) p passed = rw h.0 (p.tells 
 -- ---- what the pass tells
 
 module _ (n : ℕ) (start keys : Bytes) where
-  pub judged-bad : (ok : Bool) → false ≡ ok → Judged ok n start keys Damaged
+  pub judged-bad : (ok : Bool) → false ≡ ok → Judged ok n start keys None
   judged-bad ok e = record { found = e; passed = λ t. absurd (false≢true (e ∙ t)) }
 
-  pub judged_good : (ok : Bool) (k : ℕ) → true ≡ ok → Passed n start keys k → Judged ok n start keys (Sound k)
+  pub judged_good : (ok : Bool) (k : ℕ) → true ≡ ok → Passed n start keys k → Judged ok n start keys (Some k)
   judged_good ok k e p = record { found = e; passed = λ t. p }
 
-  pub judged-rest : (ok : Bool) (k : ℕ) (r : Judgement) → r ≡ cond ok (Sound k) Damaged → Passed n start keys k → Judged ok n start keys r
+  pub judged-rest : (ok : Bool) (k : ℕ) (r : Option ℕ) → r ≡ cond ok (Some k) None → Passed n start keys k → Judged ok n start keys r
   judged-rest true k r e p = rw e (judged_good true k refl p)
   judged-rest false k r e p = rw e (judged-bad false refl)

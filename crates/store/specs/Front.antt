@@ -1,5 +1,5 @@
 -- The key at the front of some bytes, as the pass over a store reads it.
-use Rattle.std.specs.Prelude.{◌≡◌, ℕ, ◌+◌, ◌-◌, ◌<◌, ◌≤◌, cond, ◌&&◌, List, length, take, drop}
+use Rattle.std.specs.Prelude.{◌≡◌, ℕ, ◌+◌, ◌-◌, ◌<◌, ◌≤◌, cond, ◌&&◌, Option, None, Some, ◌≢◌, List, length, take, drop}
 use Rattle.wire.specs.Bytes.{Bytes, zero_at, number_at}
 use Rattle.dots.specs.Names.{Name}
 use Rattle.keys.specs.Tests.{label_after, entry_after}
@@ -18,6 +18,11 @@ unfoldable pub after_length : List ℕ → Bytes → ℕ
 after_length words t =
     let len = zero_at t + suffix_size in
     cond (label_after (take len t) && sees words (entry_after (take len t)).dot) len 0
+
+-- a length as it is returned: none in place of 0
+abbrev pub LengthIs : ℕ → Option ℕ → Type 0
+LengthIs len None = len ≡ 0
+LengthIs len (Some r) = (r ≡ len) × (r ≢ 0)
 
 -- the numbers in the first 8 bytes and in the next 4 of the bytes from a place to another, which are none or 12 at least
 pub record FirstNumbers (bytes : Bytes) (from to word half : ℕ) : Type 0 where

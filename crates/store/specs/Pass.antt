@@ -1,5 +1,7 @@
 -- The pass over the keys of a store, key by key: what each of its functions counts on and tells.
-use Rattle.std.specs.Prelude.{◌≡◌, ℕ, ◌+◌, ◌-◌, ◌*◌, ◌^◌, ◌≤◌, Bool, true, false, ◌&&◌, ◌⊎◌, List, ◌++◌, map, length, take, drop, ◌==◌, ◌≢◌, nat_le, slice_index}
+use Rattle.std.specs.Prelude.{◌≡◌, ℕ, ◌+◌, ◌-◌, ◌*◌, ◌^◌, ◌≤◌, Bool, true, false, ◌&&◌, ◌⊎◌, Option, None, Some, List, ◌++◌, map, length, get_or, take, drop, ◌==◌, ◌≢◌, nat_le, slice_index}
+use mir.Syntax.{w8}
+use mir.Val.{Fits}
 use Rattle.wire.specs.Lists.{all, is_lt, ascends_from}
 use Rattle.wire.specs.Bytes.{Bytes, between, compare_bytes, number_at, from_little_endian}
 use Rattle.search.specs.Marks.{mark_place}
@@ -9,10 +11,7 @@ use Rattle.clock.specs.Clock.{sees}
 use Rattle.keys.specs.Entry.{prefix}
 use Rattle.keys.specs.Key.{label_key_fixed, prefix_fixed, suffix_size}
 use Rattle.store.specs.declared.KeyTail.{KeyTail}
-use Rattle.store.specs.declared.KeyRead.{KeyRead}
-use Rattle.store.specs.declared.KeyRead.TheVariants.{Damaged, Sound}
-use Rattle.store.specs.declared.LabelRead.{LabelRead}
-use Rattle.store.specs.declared.LabelRead.TheVariants.{Bad, Ends}
+use Rattle.store.specs.declared.LabelEnd.{LabelEnd}
 use Rattle.store.specs.declared.Prefix.{Prefix}
 use Rattle.store.specs.Cut.{keys_of}
 use Rattle.store.specs.Valid.{key_ok, used_ok}
@@ -52,9 +51,9 @@ abbrev pub MarkTells : ℕ → ℕ → Type 0
 MarkTells mark len = (mark ≢ 0) → (len ≡ mark_place mark) × (1 ≤ len)
 
 -- a label that ends after z bytes: "1 to 32 bytes"
-abbrev pub LabelIs : ℕ → LabelRead → Type 0
-LabelIs z Bad = between 1 label_most z ≡ false
-LabelIs z (Ends l) = (l.len ≡ z) × (between 1 label_most z ≡ true) × MarkTells l.mark l.len
+abbrev pub LabelIs : ℕ → Option LabelEnd → Type 0
+LabelIs z None = between 1 label_most z ≡ false
+LabelIs z (Some l) = (l.len ≡ z) × (between 1 label_most z ≡ true) × MarkTells l.mark l.len
 
 -- actor, 00 and counter from a place on are a dot that the clock sees
 unfoldable pub dot_seen : List ℕ → Bytes → ℕ → Bool
@@ -62,9 +61,9 @@ dot_seen words t at =
     nat_le 1 (slice_index t at) && nat_le (slice_index t at) actor_most && slice_index t (at + 1) == 0 && sees words (dot_of (actor_of (slice_index t at)) (number_at 8 t (at + 2)))
 
 -- label, 00, actor, 00 and counter, of so many bytes in all, or 0 where they break a rule
-abbrev pub AfterIs : ℕ → LabelRead → Type 0
-AfterIs size Bad = size ≡ 0
-AfterIs size (Ends l) = (size ≡ l.len + suffix_size) × (1 ≤ l.len) × MarkTells l.mark l.len
+abbrev pub AfterIs : ℕ → Option LabelEnd → Type 0
+AfterIs size None = size ≡ 0
+AfterIs size (Some l) = (size ≡ l.len + suffix_size) × (1 ≤ l.len) × MarkTells l.mark l.len
 
 -- ---- the keys so far
 
@@ -84,9 +83,13 @@ pub record Passing (name : Name) (words : List ℕ) (keys : Bytes) (last : KeyTa
   pub tells : (label : Label) → BeforeAll (tail_of keys last) label → LabelPassed name label keys last.end
 
 -- the rules are broken, or kept by the keys up to one that ends at `least` or past it
-abbrev pub NextIs : Name → List ℕ → Bytes → ℕ → KeyRead → Type 0
-NextIs name words keys least Damaged = used_ok name words keys ≡ false
-NextIs name words keys least (Sound last) = Passing name words keys last × (least ≤ last.end)
+abbrev pub NextIs : Name → List ℕ → Bytes → ℕ → Option KeyTail → Type 0
+NextIs name words keys least None = used_ok name words keys ≡ false
+NextIs name words keys least (Some last) = Passing name words keys last × (least ≤ last.end)
+
+-- numbers that fit a byte each, as those of lent bytes do
+abbrev pub AreBytes : Bytes → Type 0
+AreBytes bytes = (i : ℕ) → Fits w8 (get_or bytes i 0)
 
 -- what a key with room for the longest is read by
 abbrev pub CanRead : Bytes → Prefix → List ℕ → Bytes → KeyTail → Type 0

@@ -1,5 +1,5 @@
 -- Where a key goes, and the stretch of a label's keys.
-use Rattle.std.specs.Prelude.{◌≡◌, ℕ, ◌+◌, ◌≤◌, Bool, true, false, cond, not, List, [], ◌∷◌, ◌++◌, length, take, drop}
+use Rattle.std.specs.Prelude.{◌≡◌, ℕ, ◌+◌, ◌≤◌, Bool, true, cond, not, Option, is_some, unwrap_or, List, [], ◌∷◌, ◌++◌, length, take, drop}
 use Rattle.wire.specs.Lists.{is_lt, all}
 use Rattle.std.specs.Borrow.{Bor}
 use Rattle.wire.specs.declared.Span.{Span}
@@ -8,8 +8,6 @@ use Rattle.dots.specs.Names.{Name, Label, name_ok, label_ok}
 use Rattle.dots.specs.Entries.{Entry}
 use Rattle.keys.specs.Entry.{prefix, entry_key}
 use Rattle.keys.specs.Key.{label_key_fixed, prefix_fixed}
-use Rattle.store.specs.declared.Judgement.{Judgement}
-use Rattle.store.specs.declared.Judgement.TheVariants.{Damaged, Sound}
 use Rattle.store.specs.Cut.{end_to_end, keys_of}
 use Rattle.store.specs.Valid.{used_ok, store_ok}
 
@@ -21,10 +19,9 @@ length_while test (k ∷ ks) = cond (test k) (length k + length_while test ks) 0
 abbrev pub lower_than : Bytes → Bytes → Bool
 lower_than key k = is_lt (compare_bytes k key)
 
--- what a walk goes past: keys that are lower than the one looked for or, in a run, that begin with it
-abbrev pub passing : Bool → Bytes → Bytes → Bool
-passing true key k = starts_with key k
-passing false key k = lower_than key k
+-- what a closure returns of a lent key is what a test says of its bytes
+abbrev pub Tests : (Bor Bytes → Bool → Type 0) → (Bytes → Bool) → Type 0
+Tests returns test = (k : Bor Bytes) (r : Bool) → returns k r → r ≡ test k.now
 
 -- where a key goes: after the keys at the front that are lower
 abbrev pub place_in : Bytes → List Bytes → ℕ
@@ -54,25 +51,16 @@ pub record PlacePast (n : ℕ) (keys key : Bytes) (low : ℕ) : Type 0 where
   pub within : low ≤ length keys
   pub placed : place_in key (keys_of n keys) ≡ low + place_in key (keys_of n (drop low keys))
 
--- a judgement: whether it is no damage, and how many bytes at the front it tells of
-abbrev pub is_sound : Judgement → Bool
-is_sound Damaged = false
-is_sound (Sound low) = true
-
-abbrev pub front_of : Judgement → ℕ
-front_of Damaged = 0
-front_of (Sound low) = low
-
--- what one pass over keys tells: whether they are in order, and then how many bytes come before all keys that begin with `start`
-pub record Judged (ok : Bool) (n : ℕ) (start keys : Bytes) (r : Judgement) : Type 0 where
-  pub found : is_sound r ≡ ok
-  pub passed : ok ≡ true → Passed n start keys (front_of r)
+-- what one pass over keys tells: a number if they are in order, and none if not; so many bytes at the front come before all keys that begin with `start`
+pub record Judged (ok : Bool) (n : ℕ) (start keys : Bytes) (r : Option ℕ) : Type 0 where
+  pub found : is_some r ≡ ok
+  pub passed : ok ≡ true → Passed n start keys (unwrap_or r 0)
 
 -- the same of keys of a set, and of a store, and a label
-abbrev pub KeysJudged : Name → List ℕ → Bytes → Label → Judgement → Type 0
+abbrev pub KeysJudged : Name → List ℕ → Bytes → Label → Option ℕ → Type 0
 KeysJudged name words keys label r = Judged (used_ok name words keys) (length name) (prefix name ++ label) keys r
 
-abbrev pub StoreJudged : Name → List ℕ → Bytes → ℕ → Label → Judgement → Type 0
+abbrev pub StoreJudged : Name → List ℕ → Bytes → ℕ → Label → Option ℕ → Type 0
 StoreJudged name words store used label r = Judged (store_ok name words store used) (length name) (prefix name ++ label) (take used store) r
 
 -- what the keys of a label begin with: the set's prefix, the label and its closing 00

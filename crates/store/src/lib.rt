@@ -2,20 +2,20 @@
 
 #![tactic(auto)]
 
-ghost use Rattle.std.specs.Prelude.{◌≡◌, ◌+◌, ◌-◌, ◌<◌, ◌≤◌, true, not, length, take, if◌then◌else◌};
+ghost use Rattle.std.specs.Prelude.{◌≡◌, ◌+◌, ◌-◌, ◌<◌, ◌≤◌, Bool, true, None, Some, length, take, if◌then◌else◌};
 ghost use Rattle.wire.specs.Lists.{is_lt};
-ghost use Rattle.wire.specs.Bytes.{compare_bytes, zero_at, starts_with, put_at};
+ghost use Rattle.std.specs.Iterator.{YieldsFirstRef, item_count};
+ghost use Rattle.wire.specs.Bytes.{Bytes, compare_bytes, zero_at, starts_with, put_at};
 ghost use Rattle.dots.specs.Names.{name_ok, label_ok, name_most};
 ghost use Rattle.dots.specs.Entries.{entry};
 ghost use Rattle.keys.specs.Entry.{prefix};
 ghost use Rattle.store.specs.Cut.{key_length, keys_of, key_dot};
-ghost use Rattle.store.specs.declared.Judgement.TheVariants.{Damaged, Sound};
 ghost use Rattle.store.specs.Valid.{used_ok, store_most};
-ghost use Rattle.store.specs.Place.{length_while, passing, place_in, LabelPassed, PlacePast};
-ghost use Rattle.store.specs.Place.{is_sound, front_of, KeysJudged, StoreJudged, IsSpanFrom, IsSpan, IsStretch};
+ghost use Rattle.store.specs.Place.{length_while, Tests, place_in, LabelPassed, PlacePast};
+ghost use Rattle.store.specs.Place.{KeysJudged, StoreJudged, IsSpanFrom, IsSpan, IsStretch};
 ghost use Rattle.store.specs.Place.{LabelStartPut, KeyPut, inserted_key, EntryHasPlace, EntryInserted};
-ghost use Rattle.store.specs.Front.{after_length, front_length, part_to, TailIn, tail_of};
-ghost use Rattle.store.specs.Pass.{prefix_most, key_most, tail_most, name_in, IsStart, IsPrefix, MarkTells, LabelIs, dot_seen, AfterIs, Passing, NextIs, CanRead, LowAfter};
+ghost use Rattle.store.specs.Front.{after_length, front_length, LengthIs, part_to, TailIn, tail_of};
+ghost use Rattle.store.specs.Pass.{prefix_most, key_most, tail_most, name_in, IsStart, IsPrefix, AreBytes, MarkTells, LabelIs, dot_seen, AfterIs, Passing, NextIs, LowAfter};
 ghost use Rattle.keys.specs.Key.{label_key_fixed, prefix_fixed, suffix_size};
 
 // Bytes of a store, at most; of what a set's keys begin with, of what a label's keys begin with, of a key.
@@ -30,13 +30,6 @@ const LABEL_START_MOST: usize = PREFIX_MOST + dots::LABEL_MOST + 1;
 
 const KEY_MOST: usize = dots::NAME_MOST + dots::LABEL_MOST + keys::LABEL_KEY_FIXED;
 
-// What judging a store gives: damage, or how many bytes at its front come before all keys of the label looked for.
-#[derive(Clone, Copy)]
-pub enum Judgement {
-    Damaged,
-    Sound(usize),
-}
-
 // The bytes of a key from its label on: where they begin and end among the keys, how long the label is, the mark of its closing 00 in the
 // label's first 8 bytes (0 where it is not kept), and the numbers in the first 8 bytes and in the next 4.
 #[derive(Clone, Copy)]
@@ -49,25 +42,11 @@ struct KeyTail {
     half: u64,
 }
 
-// What the next key of a pass gives: damage, or its bytes from the label on.
-#[derive(Clone, Copy)]
-enum KeyRead {
-    Damaged,
-    Sound(KeyTail),
-}
-
 // How long a label is, and the mark of its closing 00 as above.
 #[derive(Clone, Copy)]
 struct LabelEnd {
     len: usize,
     mark: u64,
-}
-
-// What the label at the front of bytes gives: it breaks its rule, or it ends.
-#[derive(Clone, Copy)]
-enum LabelRead {
-    Bad,
-    Ends(LabelEnd),
 }
 
 // What a set's keys begin with, for comparing up to 8 bytes at once: how long it is, which bits of a word count, and what they are.
@@ -78,26 +57,6 @@ struct Prefix {
     pattern: u64,
 }
 
-// Whether a judgement is damage.
-pub fn is_damage(judgement: Judgement) -> bool
-    ensures { result ≡ not (is_sound judgement) }
-{
-    match judgement {
-        Judgement::Damaged => true,
-        Judgement::Sound(_) => false,
-    }
-}
-
-// How many bytes at the front it tells of; of damage none.
-pub fn front_of(judgement: Judgement) -> usize
-    ensures { result ≡ front_of judgement }
-{
-    match judgement {
-        Judgement::Damaged => 0,
-        Judgement::Sound(low) => low,
-    }
-}
-
 // ---- validity, place, insertion, stretch
 
 // Puts what the label keys of a set begin with at the front of out. Returns its length.
@@ -105,35 +64,24 @@ fn put_prefix(out: &mut [u8], name: &[u8]) -> usize
     requires { length name.now + prefix_fixed ≤ length out.old }
     ensures { (result ≡ length name.now + prefix_fixed) × (out.new ≡ put_at out.old 0 (prefix name.now)) }
 {
-    let head = [2, 1];
-    let next = moves::put(out, 0, &head);
-    let end = moves::put(out, next, name);
-    let tail = [0, b'e'];
-    moves::put(out, end, &tail)
-}
-
-// How many of n bytes are the first 8: all of them if there are fewer.
-fn first_eight(n: usize) -> usize
-    ensures { (result ≤ n) × (result ≤ 8) }
-{
-    if n < 8 { n } else { 8 }
+    keys::put_front(out, name, u8::from(keys::KeyKind::LabelKey))
 }
 
 // The number in the first 8 bytes of a label, with 0s after a shorter one. It only spares comparisons, so nothing is promised of it.
 fn label_number(label: &[u8]) -> u64 {
     let mut bytes = [0u8; 8];
-    let k = first_eight(label.len());
+    let k = label.len().min(8);
     moves::put(&mut bytes, 0, &label[..k]);
     wire::number_at(&bytes, 0)
 }
 
-// How long label, 00, actor, 00 and counter are at the front of what follows a prefix, if they keep their rules and the dot is seen; else 0.
-fn after_length(words: &clock::Words, t: &[u8]) -> usize
-    ensures { result ≡ after_length words.now t.now }
+// How long label, 00, actor, 00 and counter are at the front of what follows a prefix, if they keep their rules and the dot is seen.
+fn after_length(words: &clock::Words, t: &[u8]) -> Option<usize>
+    ensures { LengthIs (after_length words.now t.now) result }
 {
     let n = search::zero_at(t);
     if t.len() < n + keys::SUFFIX_SIZE {
-        return 0;
+        return None;
     }
     let number = t[n + 1];
     let ended = t[n + 2] == 0;
@@ -143,33 +91,29 @@ fn after_length(words: &clock::Words, t: &[u8]) -> usize
         & ended
         & (1 <= event);
     if !shaped {
-        return 0;
+        return None;
     }
     let dot = dots::Dot {
         actor: dots::Actor { number: number },
         counter: dots::Counter { number: event },
     };
     if clock::sees(words, dot) {
-        n + keys::SUFFIX_SIZE
-    } else {
-        0
+        return Some(n + keys::SUFFIX_SIZE);
     }
+    None
 }
 
-// How long the key at the front is, if it is a label key of the set whose dot is seen; else 0. `start` is what the set's keys begin with.
-fn front_length(start: &[u8], words: &clock::Words, s: &[u8]) -> usize
+// How long the key at the front is, if it is a label key of the set whose dot is seen. `start` is what the set's keys begin with.
+fn front_length(start: &[u8], words: &clock::Words, s: &[u8]) -> Option<usize>
     requires { IsStart start.now }
-    ensures { result ≡ front_length (name_in start.now) words.now s.now }
+    ensures { LengthIs (front_length (name_in start.now) words.now s.now) result }
 {
     if !search::starts_with(start, s) {
-        return 0;
+        return None;
     }
     let at = start.len();
-    let len = after_length(words, &s[at..]);
-    if len == 0 {
-        return 0;
-    }
-    at + len
+    let len = after_length(words, &s[at..])?;
+    Some(at + len)
 }
 
 // One of two numbers.
@@ -209,7 +153,7 @@ fn ascends(keys: &[u8], last: KeyTail, next: KeyTail) -> bool
 // ---- a key with room for the longest after it
 
 // The label at the front of t. A label that ends in its first 8 bytes is mostly as long as the last key's: its mark is compared, and no length waits for it.
-fn label_end(t: &[u8], last: KeyTail) -> LabelRead
+fn label_end(t: &[u8], last: KeyTail) -> Option<LabelEnd>
     requires { (tail_most ≤ length t.now) × MarkTells last.mark last.len }
     ensures { LabelIs (zero_at t.now) result }
 {
@@ -217,19 +161,19 @@ fn label_end(t: &[u8], last: KeyTail) -> LabelRead
     if marks == 0 {
         let len = search::zero_near(t, 0);
         if dots::LABEL_MOST < len {
-            return LabelRead::Bad;
+            return None;
         }
-        return LabelRead::Ends(LabelEnd { len, mark: 0 });
+        return Some(LabelEnd { len, mark: 0 });
     }
     let mark = search::lowest_mark(marks);
     if mark != last.mark {
         let len = search::mark_place(marks);
         if len == 0 {
-            return LabelRead::Bad;
+            return None;
         }
-        return LabelRead::Ends(LabelEnd { len, mark });
+        return Some(LabelEnd { len, mark });
     }
-    LabelRead::Ends(LabelEnd {
+    Some(LabelEnd {
         len: last.len,
         mark,
     })
@@ -248,18 +192,15 @@ fn dot_seen(words: &clock::Words, t: &[u8], at: usize) -> bool
 }
 
 // The label at the front of what follows a prefix, where 00, actor, 00 and counter after it keep their rules and the dot is seen.
-fn seen_label(words: &clock::Words, t: &[u8], last: KeyTail) -> LabelRead
+fn seen_label(words: &clock::Words, t: &[u8], last: KeyTail) -> Option<LabelEnd>
     requires { (tail_most ≤ length t.now) × MarkTells last.mark last.len }
     ensures { AfterIs (after_length words.now t.now) result }
 {
-    let read = label_end(t, last);
-    let LabelRead::Ends(label) = read else {
-        return LabelRead::Bad;
-    };
+    let label = label_end(t, last)?;
     if dot_seen(words, t, label.len + 1) {
-        return LabelRead::Ends(label);
+        return Some(label);
     }
-    LabelRead::Bad
+    None
 }
 
 // Whether bytes with room for the longest key begin with a set's prefix.
@@ -296,116 +237,109 @@ fn prefix_of(start: &[u8]) -> Prefix
     }
 }
 
-// The next key of a pass, with room for the longest key.
-fn roomy_key(
-    start: &[u8],
+// What the pass over a store reads: what the set's keys begin with, and that for comparing, the clock, and the keys.
+#[derive(Clone, Copy)]
+struct Pass<'a> {
+    start: &'a [u8],
     prefix: Prefix,
-    words: &clock::Words,
-    keys: &[u8],
-    last: KeyTail,
-) -> KeyRead
-    requires { CanRead start.now prefix words.now keys.now last × (last.end + key_most ≤ length keys.now) }
-    ensures { NextIs (name_in start.now) words.now keys.now (last.end + 1) result }
-{
-    let len = prefix.len;
-    let at = last.end;
-    let tails = &keys[len..];
-    let tail = &tails[at..];
-    let read = seen_label(words, tail, last);
-    let LabelRead::Ends(label) = read else {
-        return KeyRead::Damaged;
-    };
-    if !begins(start, prefix, &keys[at..]) {
-        return KeyRead::Damaged;
-    }
-    let from = at + len;
-    let end = (at + (len + keys::SUFFIX_SIZE)) + label.len;
-    let next = KeyTail {
-        from,
-        end,
-        len: label.len,
-        mark: label.mark,
-        word: wire::number_at(tail, 0),
-        half: wire::half_at(tail, 8),
-    };
-    if !ascends(keys, last, next) {
-        return KeyRead::Damaged;
-    }
-    KeyRead::Sound(next)
+    words: &'a clock::Words,
+    keys: &'a [u8],
+    ghost is_start: { IsStart start.now },
+    ghost is_prefix: { IsPrefix start.now prefix },
+    ghost are_bytes: { AreBytes keys.now },
 }
 
-// The keys of a pass up to one that ends at `stop` or past it, each with room for the longest key.
-fn judge_run(
-    start: &[u8],
-    prefix: Prefix,
-    words: &clock::Words,
-    keys: &[u8],
-    first: KeyTail,
-    stop: usize,
-) -> KeyRead
-    requires { CanRead start.now prefix words.now keys.now first × (stop + key_most ≤ length keys.now + 1) }
-    ensures { NextIs (name_in start.now) words.now keys.now stop result }
-{
-    let mut last = first;
-    while last.end < stop {
-        let read = roomy_key(start, prefix, words, keys, last);
-        let KeyRead::Sound(next) = read else {
-            return KeyRead::Damaged;
+impl<'a> Pass<'a> {
+    // The next key of a pass, with room for the longest key.
+    fn roomy_key(self, last: KeyTail) -> Option<KeyTail>
+        requires { Passing (name_in self.start.now) self.words.now self.keys.now last × (last.end + key_most ≤ length self.keys.now) }
+        ensures { NextIs (name_in self.entry.start.now) self.entry.words.now self.entry.keys.now (last.end + 1) result }
+    {
+        let Pass {
+            start,
+            prefix,
+            words,
+            keys,
+            ..
+        } = self;
+        let len = prefix.len;
+        let at = last.end;
+        let tails = &keys[len..];
+        let tail = &tails[at..];
+        let label = seen_label(words, tail, last)?;
+        if !begins(start, prefix, &keys[at..]) {
+            return None;
+        }
+        let from = at + len;
+        let end = (at + (len + keys::SUFFIX_SIZE)) + label.len;
+        let next = KeyTail {
+            from,
+            end,
+            len: label.len,
+            mark: label.mark,
+            word: wire::number_at(tail, 0),
+            half: wire::half_at(tail, 8),
         };
-        last = next;
+        if !ascends(keys, last, next) {
+            return None;
+        }
+        Some(next)
     }
-    KeyRead::Sound(last)
-}
 
-// ---- any key
-
-// The next key of a pass, wherever it stands.
-fn any_key(start: &[u8], words: &clock::Words, keys: &[u8], last: KeyTail) -> KeyRead
-    requires { IsStart start.now × Passing (name_in start.now) words.now keys.now last × (last.end < length keys.now) }
-    ensures { NextIs (name_in start.now) words.now keys.now (last.end + 1) result }
-{
-    let at = last.end;
-    let size = front_length(start, words, &keys[at..]);
-    if size == 0 {
-        return KeyRead::Damaged;
+    // The keys of a pass up to one that ends at `stop` or past it, each with room for the longest key.
+    fn judge_run(self, first: KeyTail, stop: usize) -> Option<KeyTail>
+        requires { Passing (name_in self.start.now) self.words.now self.keys.now first × (stop + key_most ≤ length self.keys.now + 1) }
+        ensures { NextIs (name_in self.entry.start.now) self.entry.words.now self.entry.keys.now stop result }
+    {
+        let mut last = first;
+        // Where the next key begins is known only when this one has been read, so that there is nothing to iterate over.
+        while last.end < stop {
+            last = self.roomy_key(last)?;
+        }
+        Some(last)
     }
-    let from = at + start.len();
-    let end = at + size;
-    let next = KeyTail {
-        from,
-        end,
-        len: 0,
-        mark: 0,
-        word: wire::number_at(keys, from),
-        half: wire::half_at(keys, from + 8),
-    };
-    let was = last.from;
-    if !search::lower(&keys[was..at], &keys[from..end]) {
-        return KeyRead::Damaged;
-    }
-    KeyRead::Sound(next)
-}
 
-// The keys of a pass from the last one read to the end. If they are sound, so are all, and `low` is told.
-fn judge_rest(
-    start: &[u8],
-    words: &clock::Words,
-    keys: &[u8],
-    first: KeyTail,
-    low: usize,
-) -> Judgement
-    requires { IsStart start.now × Passing (name_in start.now) words.now keys.now first }
-    ensures { result ≡ (if used_ok (name_in start.now) words.now keys.now then Sound low else Damaged) }
-{
-    let mut last = first;
-    while last.end < keys.len() {
-        let read = any_key(start, words, keys, last);
-        let KeyRead::Sound(next) = read else {
-            return Judgement::Damaged;
+    // The next key of a pass, wherever it stands.
+    fn any_key(self, last: KeyTail) -> Option<KeyTail>
+        requires { Passing (name_in self.start.now) self.words.now self.keys.now last × (last.end < length self.keys.now) }
+        ensures { NextIs (name_in self.entry.start.now) self.entry.words.now self.entry.keys.now (last.end + 1) result }
+    {
+        let Pass {
+            start,
+            words,
+            keys,
+            ..
+        } = self;
+        let at = last.end;
+        let size = front_length(start, words, &keys[at..])?;
+        let from = at + start.len();
+        let end = at + size;
+        let next = KeyTail {
+            from,
+            end,
+            len: 0,
+            mark: 0,
+            word: wire::number_at(keys, from),
+            half: wire::half_at(keys, from + 8),
         };
-        last = next;
+        let was = last.from;
+        if !search::lower(&keys[was..at], &keys[from..end]) {
+            return None;
+        }
+        Some(next)
     }
-    Judgement::Sound(low)
+
+    // The keys of a pass from the last one read to the end. If they are sound, so are all, and `low` is told.
+    fn judge_rest(self, first: KeyTail, low: usize) -> Option<usize>
+        requires { Passing (name_in self.start.now) self.words.now self.keys.now first }
+        ensures { result ≡ (if used_ok (name_in self.entry.start.now) self.entry.words.now self.entry.keys.now then Some low else None) }
+    {
+        let mut last = first;
+        while last.end < self.keys.len() {
+            last = self.any_key(last)?;
+        }
+        Some(low)
+    }
 }
 
 // ---- the pass
@@ -417,7 +351,7 @@ fn run_end(at: usize, size: usize) -> usize
 {
     let stop = at + (size / 32 + 128);
     let last = size - (KEY_MOST - 1);
-    if stop < last { stop } else { last }
+    stop.min(last)
 }
 
 // How many bytes come before all keys of a label, as far as is known: those up to the end of the last key, if all up to where its run began do and it does.
@@ -439,11 +373,17 @@ fn low_after(keys: &[u8], label: &[u8], wanted: u64, last: KeyTail, low: usize, 
 
 // Whether bytes are label keys of the set end to end, ascending, each dot seen, and how many bytes come before all keys of a label.
 // The keys begin alike, so that their order is that of what follows `start`. After each run the last key is compared with the label.
-fn judge_keys(start: &[u8], words: &clock::Words, keys: &[u8], label: &[u8]) -> Judgement
+fn judge_keys(start: &[u8], words: &clock::Words, keys: &[u8], label: &[u8]) -> Option<usize>
     requires { IsStart start.now × (length keys.now ≤ store_most) }
     ensures { KeysJudged (name_in start.now) words.now keys.now label.now result }
 {
     let prefix = prefix_of(start);
+    let pass = Pass {
+        start,
+        prefix,
+        words,
+        keys,
+    };
     let wanted = label_number(label);
     let mut last = KeyTail {
         from: 0,
@@ -457,14 +397,11 @@ fn judge_keys(start: &[u8], words: &clock::Words, keys: &[u8], label: &[u8]) -> 
     while last.end + KEY_MOST <= keys.len() {
         let at = last.end;
         let stop = run_end(at, keys.len());
-        let read = judge_run(start, prefix, words, keys, last, stop);
-        let KeyRead::Sound(next) = read else {
-            return Judgement::Damaged;
-        };
+        let next = pass.judge_run(last, stop)?;
         low = low_after(keys, label, wanted, next, low, at);
         last = next;
     }
-    judge_rest(start, words, keys, last, low)
+    pass.judge_rest(last, low)
 }
 
 // Whether the store is undamaged: its length and used length, and one pass over the keys, which tells how many bytes come before all keys of a label.
@@ -475,18 +412,18 @@ pub fn judge(
     store: &[u8],
     used: usize,
     label: &[u8],
-) -> Judgement
+) -> Option<usize>
     requires { name_ok name.now ≡ true }
     ensures { StoreJudged name.now words.now store.now used label.now result }
 {
     if STORE_MOST < store.len() {
-        return Judgement::Damaged;
+        return None;
     }
     if store.len() < used {
-        return Judgement::Damaged;
+        return None;
     }
     if used == 0 {
-        return Judgement::Sound(0);
+        return Some(0);
     }
     let mut start = [0; PREFIX_MOST];
     let n = put_prefix(&mut start, name);
@@ -510,30 +447,47 @@ pub fn key_length(n: usize, s: &[u8]) -> usize
     len
 }
 
-// Whether a walk goes past a stored key: it is lower than the key looked for or, in a run, begins with it. Raw bytes are compared, and nothing is decoded.
-fn passes(stored: &[u8], key: &[u8], run: bool) -> bool
-    ensures { result ≡ passing run key.now stored.now }
-{
-    if run {
-        return search::starts_with(key, stored);
-    }
-    search::lower(stored, key)
+// Keys end to end, of a set whose name has n bytes, from the first on.
+#[derive(Clone, Copy)]
+struct Keys<'a> {
+    n: usize,
+    rest: &'a [u8],
+    ghost short: { n ≤ name_most },
 }
 
-// How many bytes the keys at the front take that a walk goes past.
-fn walk_past(n: usize, keys: &[u8], key: &[u8], run: bool) -> usize
-    requires { n ≤ name_most }
-    ensures { (result ≡ length_while (passing run key.now) (keys_of n keys.now)) × (result ≤ length keys.now) }
-{
-    let mut at = 0;
-    while at < keys.len() {
-        let end = at + key_length(n, &keys[at..]);
-        if !passes(&keys[at..end], key, run) {
-            return at;
+impl<'a> Iterator for Keys<'a> {
+    type Item = &'a [u8];
+
+    ghost next_gives = { YieldsFirstRef (λ s. keys_of s.n s.rest.now) };
+
+    ghost remaining = { item_count (λ s. keys_of s.n s.rest.now) };
+
+    fn next(&mut self) -> Option<&'a [u8]> {
+        let rest = self.rest;
+        if rest.is_empty() {
+            return None;
         }
-        at = end;
+        let len = key_length(self.n, rest);
+        self.rest = &rest[len..];
+        Some(&rest[..len])
     }
-    at
+}
+
+// How many bytes the keys at the front take that a walk goes past. Raw bytes are compared, and nothing is decoded.
+fn walk_past<F: Fn(&[u8]) -> bool>(n: usize, keys: &[u8], passes: F) -> usize
+    requires short { n ≤ name_most }
+    requires callable { F.IsAlwaysCallable passes }
+    ensures walked { (test : Bytes → Bool) → Tests (F.post passes) test → result ≡ length_while test (keys_of n keys.now) }
+    ensures within { result ≤ length keys.now }
+{
+    let mut len = 0;
+    for key in (Keys { n, rest: keys }) {
+        if !passes(key) {
+            return len;
+        }
+        len += key.len();
+    }
+    len
 }
 
 // Where a key goes in keys end to end, the first `low` bytes of which come before it.
@@ -541,7 +495,7 @@ fn place(n: usize, keys: &[u8], key: &[u8], low: usize) -> usize
     requires { (n ≤ name_most) × PlacePast n keys.now key.now low }
     ensures { (result ≡ place_in key.now (keys_of n keys.now)) × (result ≤ length keys.now) }
 {
-    low + walk_past(n, &keys[low..], key, false)
+    low + walk_past(n, &keys[low..], |k| search::lower(k, key))
 }
 
 // Puts what the keys of a label begin with at the front of out. Returns its length.
@@ -600,7 +554,7 @@ fn span_from(n: usize, keys: &[u8], start: &[u8], low: usize) -> wire::Span
     ensures { IsSpanFrom n keys.now start.now result }
 {
     let at = place(n, keys, start, low);
-    let len = walk_past(n, &keys[at..], start, true);
+    let len = walk_past(n, &keys[at..], |k| search::starts_with(start, k));
     wire::Span { at: at, len: len }
 }
 

@@ -30,11 +30,6 @@ from_lt (b ∷ bs) small = rw pow-succ' (digits_lt (small 0) (from_lt bs (λ i. 
 pub from-fits : (bs : List ℕ) → AreBytes bs → length bs ≤ 8 → from_big_endian bs < 2 ^ 64
 from-fits bs small h = le_trans (from_lt bs small) (pow-le-pow_right (lit< tt) h)
 
--- four bytes, as the code reads them
-pub from-four : (a b c d : ℕ) → ((a * 256 + b) * 256 + c) * 256 + d ≡ from_big_endian (a ∷ b ∷ c ∷ d ∷ [])
-unfolding from_big_endian
-from-four a b c d = omega arith
-
 pub length-big_endian : (k n : ℕ) → length (big_endian k n) ≡ k
 unfolding big_endian
 length-big_endian zero n = refl

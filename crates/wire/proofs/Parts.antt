@@ -5,7 +5,7 @@ use Prim.Native.Nat.{ℕ, zero, suc, ◌+◌, ◌-◌, ◌≤◌, ◌<◌}
 use native.Mathlib.Nat.{sub-zero, zero-sub, suc-sub-suc}
 use native.Mathlib.Numerals.{add-one}
 use native.Mathlib.Omega.{arith}
-use lib.ListN.{length, take, drop, get_or, length-drop, get_or-eq_default}
+use lib.ListN.{length, take, drop, get_or, length-drop}
 use lib.Seq.{take-suc, drop-cons, take_all, take-nil, take-add, drop-drop}
 
 -- one element more of a list from its front, and one less of its rest
@@ -29,10 +29,6 @@ drop-take zero b s = rw sub-zero
 drop-take (suc a) zero s = rw zero-sub
 drop-take (suc a) (suc b) [] = sym (take-nil (suc b - suc a))
 drop-take (suc a) (suc b) (x ∷ s) = rw suc-sub-suc (drop-take a b s)
-
--- past the end
-pub none-past : (s : List ℕ) (i : ℕ) → length s ≤ i → 0 ≡ get_or s i 0
-none-past s i h = sym (get_or-eq_default s 0 h)
 
 -- the first element of a part, and the part after it
 pub part_step : (s : List ℕ) (a k : ℕ) → a < length s → take (suc k) (drop a s) ≡ get_or s a 0 ∷ take k (drop (a + 1) s)

@@ -9,4 +9,4 @@ returns-then-state-ne-STATE_SIZE c = not_listed c.args.state.now c.if-state-ne-S
 
 pub returns : goal.returns
 returns c = listed c.args.state.now c.if-state-ne-STATE_SIZE.false c.unpack.result c.unpack.ensures c.args.store.now c.args.out.now (λ (st : State). list_result st c.args.store.now c.args.out.now)
-    _ _ c.list-done.result c.list-done.ensures c.number_of.ensures
+    _ _ c.list-done.result c.list-done.ensures c.from.ensures

@@ -13,4 +13,4 @@ returns-then-state-ne-STATE_SIZE c = not_changed c.args.state.now c.if-state-ne-
 pub returns : goal.returns
 returns c = let block = c.args.state.now in
     loaded block c.if-state-ne-STATE_SIZE.false (state_in block) refl c.args.store.now [] (λ (st : State). load_result c.args.actor c.args.image.now c.args.store.now)
-    _ _ _ c.load-done.result c.load-done.ensures c.pack.ensures c.number_of.ensures
+    _ _ _ c.load-done.result c.load-done.ensures c.pack.ensures c.from.ensures

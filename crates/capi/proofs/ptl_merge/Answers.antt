@@ -10,4 +10,4 @@ returns-then-second-ne-STATE_SIZE c = not_merged_second c.args.second.now c.if-s
 
 pub returns : goal.returns
 returns c = merged c.args.first.now c.if-first-ne-STATE_SIZE.false c.unpack-state.result c.unpack-state.ensures c.args.second.now c.if-second-ne-STATE_SIZE.false c.unpack.result c.unpack.ensures
-    c.args.first_store.now c.args.second_store.now c.args.out.now _ _ c.merge-done.result c.merge-done.ensures c.number_of.ensures
+    c.args.first_store.now c.args.second_store.now c.args.out.now _ _ c.merge-done.result c.merge-done.ensures c.from.ensures

@@ -9,4 +9,4 @@ returns-then-state-ne-STATE_SIZE c = not_left c.args.state.now c.if-state-ne-STA
 
 pub returns : goal.returns
 returns c = left c.args.state.now c.if-state-ne-STATE_SIZE.false c.unpack.result c.unpack.ensures c.args.store.now c.args.out.now (λ (st : State). own_remove_result st c.args.store.now c.args.context.now c.args.out.now)
-    _ _ _ _ c.own_remove-done.result c.own_remove-done.ensures c.pack.ensures c.number_of.ensures
+    _ _ _ _ c.own_remove-done.result c.own_remove-done.ensures c.pack.ensures c.from.ensures

@@ -7,4 +7,4 @@ returns-then-state-ne-STATE_SIZE c = not_paged c.args.state.now c.if-state-ne-ST
 
 pub returns : goal.returns
 returns c = paged c.args.state.now c.if-state-ne-STATE_SIZE.false c.unpack.result c.unpack.ensures c.args.store.now c.args.start.now c.args.out.now
-    _ _ c.page-page.result c.page-page.ensures c.number_of.ensures
+    _ _ c.page-page.result c.page-page.ensures c.from.ensures

@@ -1,6 +1,9 @@
--- Each field goes out as it was read.
-use Rattle.capi.proofs.Formats.{key-read}
+-- Each field goes out as it was read; of a refusal all are 0.
+use Rattle.capi.proofs.Formats.{key-read, no-key-read}
 use Rattle.capi.proofs.ptl_read_key.Goals as goal
 
-pub returns : goal.returns
-returns c = key-read _ c.read_key-read.result _ c.read_key-read.ensures c.number_of.ensures
+pub returns-in-Ok : goal.returns-in-Ok
+returns-in-Ok c = key-read c.args.bytes.now c.in-Ok.key _ (rw c.in-Ok.is at c.read_key.ensures) c.from.ensures
+
+pub returns-in-Err : goal.returns-in-Err
+returns-in-Err c = no-key-read c.args.bytes.now c.in-Err.answer _ (rw c.in-Err.is at c.read_key.ensures) c.from-in-Err.ensures

@@ -6,4 +6,4 @@ pub returns-then-state-ne-STATE_SIZE : goal.returns-then-state-ne-STATE_SIZE
 returns-then-state-ne-STATE_SIZE c = not_set_up c.args.state.now c.if-state-ne-STATE_SIZE.true c.args.actor c.args.name.now
 
 pub returns : goal.returns
-returns c = sets_up c.args.state.now c.if-state-ne-STATE_SIZE.false c.args.actor c.args.name.now c.set_up-done.result _ _ c.set_up-done.ensures c.pack.ensures c.number_of.ensures
+returns c = sets_up c.args.state.now c.if-state-ne-STATE_SIZE.false c.args.actor c.args.name.now c.set_up-done.result _ _ c.set_up-done.ensures c.pack.ensures c.from.ensures

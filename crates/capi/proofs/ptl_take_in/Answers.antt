@@ -10,4 +10,4 @@ returns-then-state-ne-STATE_SIZE c = not_changed c.args.state.now c.if-state-ne-
 
 pub returns : goal.returns
 returns c = changed c.args.state.now c.if-state-ne-STATE_SIZE.false c.unpack.result c.unpack.ensures c.args.store.now [] (λ (st : State). take_in_result st c.args.store.now c.args.message.now)
-    _ _ _ _ c.take_in-done.result c.take_in-done.ensures c.pack.ensures c.number_of.ensures
+    _ _ _ _ c.take_in-done.result c.take_in-done.ensures c.pack.ensures c.from.ensures

@@ -2,8 +2,8 @@
 use Rattle.clock.specs.Clock.{join_dot}
 use Rattle.clock.proofs.join_dot.Goals as goal
 
-pub row_join-requires : goal.row_join-requires
-row_join-requires c = rw c.row_of-row.ensures c.requires
+pub join-requires : goal.join-requires
+join-requires c = rw c.row_of-row.ensures c.requires
 
 pub returns : goal.returns
 unfolding join_dot

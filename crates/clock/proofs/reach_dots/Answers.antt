@@ -1,31 +1,25 @@
-use Rattle.std.proofs.Common.{sym, ap, ◌∙◌, arith}
+use Rattle.std.proofs.Common.{ap, sym, ◌∙◌}
 use Rattle.clock.specs.Row.{window_width}
-use Rattle.clock.specs.Reach.{reach_of, reach_each}
-use Rattle.dots.proofs.Loops.{dots-start, dots-next, dots-none}
+use Rattle.clock.specs.Reach.{Reach, reach_of}
+use Rattle.clock.proofs.Reaching.{reach-next, reach-stop, reach-last}
 use Rattle.clock.proofs.reach_dots.Goals as goal
 
-pub loop-i-init : goal.loop-i-init
-loop-i-init c = let a = c.args in
-    (omega arith, (c.requires.1, ap (reach_each window_width a.words.now (reach_of a.from)) (dots-start a.offered.now)))
+pub loop-dot-init : goal.loop-dot-init
+loop-dot-init c = (c.requires.1, cc)
 
-pub reach_step-x-requires : goal.reach_step-x-requires
-reach_step-x-requires c = (c.requires.0, c.loop-i.invariant.1.0)
+pub reach_step-requires : goal.reach_step-requires
+reach_step-requires c = (c.requires.0, c.loop-dot.invariant.0)
 
-pub loop-i-preserved : goal.loop-i-preserved
-unfolding reach_each
-loop-i-preserved c = let a = c.args in
-    let s = a.offered.now in
-    let next = dots-next s c.loop-i.i c.loop-i-test.true in (
-      omega arith,
-      (
-        c.reach_step-x.ensures.1,
-        rw (c.reach_step-x.ensures.0, c.dot_at-dot.ensures)
-            (ap (reach_each window_width a.words.now (reach_of c.loop-i.x)) (sym next) ∙ c.loop-i.invariant.1.1),
-      ),
-    )
+pub loop-dot-preserved : goal.loop-dot-preserved
+loop-dot-preserved c = (
+  c.in_ok-x.ensures.1,
+  reach-next window_width c.args.words.now (reach_of c.loop-dot.x) _ (reach_of c.in_ok-x.x) c.in-Some.dot _ c.in-Some.ensures.steps c.in_ok-x.ensures.0 ∙ c.loop-dot.invariant.1,
+)
+
+pub returns-in_err-x : goal.returns-in_err-x
+returns-in_err-x c =
+    rw c.from_residual.ensures
+    (ap (λ (y : Reach). y.ok) (sym c.loop-dot.invariant.1) ∙ reach-stop window_width c.args.words.now (reach_of c.loop-dot.x) _ c.in-Some.dot _ c.in-Some.ensures.steps c.in_err-x.ensures)
 
 pub returns : goal.returns
-unfolding reach_each
-returns c = let a = c.args in
-    let s = a.offered.now in
-    (sym (ap (reach_each window_width a.words.now (reach_of c.loop-i.x)) (dots-none s c.loop-i.i c.loop-i-test.false)) ∙ c.loop-i.invariant.1.1, c.loop-i.invariant.1.0)
+returns c = (reach-last window_width c.args.words.now (reach_of c.loop-dot.x) _ c.in-None.ensures.steps.0 ∙ c.loop-dot.invariant.1, c.loop-dot.invariant.0)

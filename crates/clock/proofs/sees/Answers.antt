@@ -4,4 +4,4 @@ use Rattle.clock.proofs.sees.Goals as goal
 
 pub returns : goal.returns
 unfolding sees
-returns c = rw (← c.row_of.ensures) c.row_sees.ensures
+returns c = rw (← c.row_of.ensures) c.sees.ensures

@@ -6,7 +6,7 @@ use Rattle.compaction.proofs.Compaction.{Walked}
 use Rattle.compaction.proofs.drop_keys.Given as goal
 
 abbrev pub invariant-loop-run : goal.invariant-loop-run
-invariant-loop-run l = Walked (is_in l.tombstone) l.n l.initial.keys l.keys l.run
+invariant-loop-run l = Walked (is_in l.dead.dots.now) l.n l.initial.keys l.keys l.run
 
 abbrev pub decreases-loop-run : goal.decreases-loop-run
 decreases-loop-run l = length l.keys - l.run.end

@@ -3,8 +3,8 @@ use Rattle.compaction.proofs.Runs.{key-kept, key-dropped}
 use borrow.Author.Rules.{rules}
 use Rattle.compaction.proofs.walk_key.Goals as goal
 
-pub returns-then-not-holds_slotted : goal.returns-then-not-holds_slotted
-returns-then-not-holds_slotted c = search (rules, key-kept)
+pub returns-then-not-holds : goal.returns-then-not-holds
+returns-then-not-holds c = search (rules, key-kept)
 
 pub returns : goal.returns
 returns c = search (rules, key-dropped)

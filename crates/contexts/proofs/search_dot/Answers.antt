@@ -1,17 +1,11 @@
-use Prim.Native.Nat.{ℕ, ◌+◌, ◌-◌, ◌/◌, ◌≤◌, ◌<◌}
-use native.Mathlib.Omega.{arith}
-use Rattle.contexts.proofs.Search.{search_start, search_above, search_below}
-use borrow.Author.Rules.{rules}
+use Rattle.std.proofs.Common.{rules, tests}
+use Rattle.std.proofs.lemmas.List.Sorted.{IsPartitionPoint-from_clause}
+use Rattle.contexts.proofs.Places.{placed_within}
+use Rattle.contexts.proofs.Search.{comes_before, searched}
 use Rattle.contexts.proofs.search_dot.Goals as goal
 
-inside : (low high n : ℕ) → low < high → high ≤ n → low + (high - low) / 2 < n
-inside low high n h k = omega arith
-
-pub loop-low-init : goal.loop-low-init
-loop-low-init c = search (rules, search_start)
-
-pub loop-low-preserved-then-dot_lower : goal.loop-low-preserved-then-dot_lower
-loop-low-preserved-then-dot_lower c = search (rules, search_above, inside)
-
-pub loop-low-preserved : goal.loop-low-preserved
-loop-low-preserved c = search (rules, search_below, inside)
+pub returns : goal.returns
+returns c =
+    placed_within c.args.dots.now c.args.dot c.partition_point.result
+    (searched c.args.dot c.args.dots.now c.requires _ c.as_chunks.ensures.front c.partition_point.result c.partition_point.ensures.bound
+    (λ h. IsPartitionPoint-from_clause (comes_before c.args.dot) _ _ c.partition_point.ensures.partitioned h (λ a r q k. search (rules, tests))))

@@ -23,4 +23,4 @@ unfolding dots_bytes
 made actor name bytes e = rw e
 
 pub returns : goal.returns
-returns c = let a = c.args in made a.actor a.name.now c.name_bytes-bytes.result c.name_bytes-bytes.ensures
+returns c = let a = c.args in made a.actor a.name.now c.padded.result c.padded.ensures

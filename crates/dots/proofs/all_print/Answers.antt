@@ -18,8 +18,8 @@ module _ (s : List ℕ) (i : ℕ) (whole ok : Bool) (inv : whole ≡ (ok && all 
   unfolding all
   end h = sym (rw (drop_of_length-le s h, and-true) at inv)
 
-pub loop-i-preserved : goal.loop-i-preserved
-loop-i-preserved c = search (rules, turn)
+pub loop-b-preserved : goal.loop-b-preserved
+loop-b-preserved c = search (rules, turn)
 
 pub returns : goal.returns
 returns c = search (rules, end)

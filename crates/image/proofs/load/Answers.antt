@@ -1,19 +1,20 @@
 -- A refusal, or what loading leaves.
-use mathlib.Core.Path.{◌≡◌, sym, ◌∙◌}
-use Rattle.dots.specs.Answer.{number_of}
+use mathlib.Core.Path.{◌≡◌}
+use Rattle.dots.specs.declared.Answer.TheVariants.{Done}
 use Rattle.image.proofs.Tables.{not_loaded, loaded, loadable}
+use borrow.Author.Rules.{rules}
 use Rattle.image.proofs.load.Goals as goal
-use Rattle.image.proofs.load.Goals.{Else-number_of-ne0}
+use Rattle.image.proofs.load.Goals.{Else-ne}
 
 -- past the branch no refusal holds
-zero : (c : Else-number_of-ne0) → number_of c.load_answer-answer.result ≡ 0
-zero c = sym c.number_of.ensures ∙ c.if-number_of-ne0.false
+none : (c : Else-ne) → c.load_answer-answer.result ≡ Done
+none c = search rules
 
-pub returns-then-number_of-ne0 : goal.returns-then-number_of-ne0
-returns-then-number_of-ne0 c = not_loaded c.args.actor c.args.image.now c.args.store.now _ c.load_answer-answer.ensures _ (λ z. c.if-number_of-ne0.true (c.number_of.ensures ∙ z)) c.fresh_state.ensures
+pub returns-then-ne : goal.returns-then-ne
+returns-then-ne c = search (rules, not_loaded)
 
 pub load_done-requires : goal.load_done-requires
-load_done-requires c = loadable c.args.actor c.args.image.now c.args.store.now _ c.load_answer-answer.ensures c.layout_of-l.result c.layout_of-l.ensures.0 (zero (goal.at.load_done-requires c).Else-number_of-ne0) c.layout_of-l.ensures.1
+load_done-requires c = search (rules, loadable)
 
 pub returns : goal.returns
-returns c = loaded c.args.actor c.args.image.now c.args.store.now _ c.load_answer-answer.ensures c.layout_of-l.result c.layout_of-l.ensures.0 (zero (goal.at.returns c).Else-number_of-ne0) _ _ c.load_done.ensures
+returns c = loaded c.args.actor c.args.image.now c.args.store.now _ c.load_answer-answer.ensures c.layout_of-l.result c.layout_of-l.ensures.0 (none (goal.at.returns c).Else-ne) _ _ c.load_done.ensures

@@ -22,10 +22,10 @@ all-put : (s t : Bytes) (at a : ℕ) (words : List ℕ) → a ≤ actor_most →
 all-put s t at a words most least e = let end : a ≡ actor_most = omega arith in rw end at e
 
 pub loop-a-init : goal.loop-a-init
-loop-a-init c = (search rules, search rules, search rules, search (rules, no_rows_put))
+loop-a-init c = (search rules, search rules, search (rules, no_rows_put))
 
 pub loop-a-preserved : goal.loop-a-preserved
-loop-a-preserved c = (search rules, search rules, search rules, search (rules, turn))
+loop-a-preserved c = (search rules, search rules, search (rules, turn))
 
 pub returns : goal.returns
 returns c = (search rules, search (rules, all-put))

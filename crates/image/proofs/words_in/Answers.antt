@@ -14,10 +14,10 @@ all_read : (s : Bytes) (words : List ℕ) (at a : ℕ) → a ≤ actor_most → 
 all_read s words at a most least e = let end : a ≡ actor_most = omega arith in rw end at e
 
 pub loop-a-init : goal.loop-a-init
-loop-a-init c = (search rules, search (rules, no_rows_read))
+loop-a-init c = search (rules, no_rows_read)
 
 pub loop-a-preserved : goal.loop-a-preserved
-loop-a-preserved c = (search rules, search (rules, row_read))
+loop-a-preserved c = search (rules, row_read)
 
 pub returns : goal.returns
 returns c = search (rules, all_read)

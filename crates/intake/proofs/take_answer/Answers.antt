@@ -1,13 +1,19 @@
 -- The first refusal of the state, of the message alone, and of both.
-use Rattle.calls.specs.State.{state_from}
-use Rattle.intake.proofs.TakeIn.{answer-refused, may_judge, answer-passed}
+use mathlib.Core.Path.{sym, ◌∙◌}
+use Rattle.steps.proofs.Passed.{passed_up}
+use Rattle.intake.proofs.TakeIn.{read-refused, late-judge, late-refused, late-passed}
 use Rattle.intake.proofs.take_answer.Goals as goal
 
-pub returns-then-number_of-ne0 : goal.returns-then-number_of-ne0
-returns-then-number_of-ne0 c = answer-refused (state_from c.args.head c.args.words.now c.args.tombstone.now) c.args.message.now c.args.read c.requires.0 c.args.lent _ _ c.first-early.ensures c.number_of.ensures c.if-number_of-ne0.true
+pub returns-in_err-fields : goal.returns-in_err-fields
+returns-in_err-fields c = rw (passed_up _ _ c.from_residual.ensures)
+    (read-refused c.args.state.now c.args.message.now c.args.read c.requires.0 c.args.lent c.requires.1 c.if-lent.false _ c.in_err-fields.was)
 
 pub taken_late-requires : goal.taken_late-requires
-taken_late-requires c = may_judge (state_from c.args.head c.args.words.now c.args.tombstone.now) c.args.message.now c.args.read c.requires.0 c.args.lent _ _ c.first-early.ensures c.number_of.ensures c.requires.1 c.if-number_of-ne0.false
+taken_late-requires c = late-judge c.args.state.now c.args.message.now c.args.read c.requires.0 c.args.lent c.requires.1 c.if-lent.false _ c.in_ok-fields.was
+
+pub returns-in_err-taken_late : goal.returns-in_err-taken_late
+returns-in_err-taken_late c = rw (passed_up _ _ c.from_residual-in_err-taken_late.ensures)
+    (late-refused c.args.state.now c.args.message.now c.args.read c.requires.0 c.args.lent c.requires.1 c.if-lent.false _ c.in_ok-fields.was _ (sym c.in_err-taken_late.was ∙ c.taken_late.ensures))
 
 pub returns : goal.returns
-returns c = answer-passed (state_from c.args.head c.args.words.now c.args.tombstone.now) c.args.message.now c.args.read c.requires.0 c.args.lent _ _ c.first-early.ensures c.number_of.ensures c.requires.1.sized c.if-number_of-ne0.false _ c.taken_late.ensures
+returns c = late-passed c.args.state.now c.args.message.now c.args.read c.requires.0 c.args.lent c.requires.1 c.if-lent.false _ c.in_ok-fields.was _ (sym c.in_ok-taken_late.was ∙ c.taken_late.ensures)

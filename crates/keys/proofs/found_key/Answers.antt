@@ -1,18 +1,18 @@
 -- The fields stand where a key of this type has them; its length gives the room.
 use Prim.Native.Nat.{ℕ, ◌+◌, ◌≤◌}
 use mathlib.Core.Path.{◌≡◌, ◌∙◌}
-use mathlib.Core.Bool.{Bool, true, cond}
+use mathlib.Core.Bool.{true, cond}
+use Rattle.std.specs.Prelude.{Ok}
 use native.Mathlib.Omega.{arith}
 use lib.ListN.{length, drop}
 use mir.Syntax.{w64}
 use mir.Val.{Fits}
 use Rattle.wire.specs.declared.Span.{Span}
 use Rattle.wire.specs.Bytes.{Bytes, byte_at, number_at, zero_at, span}
-use Rattle.dots.specs.declared.Answer.TheVariants.{Done}
 use Rattle.keys.specs.declared.KeyKind.{KeyKind}
 use Rattle.keys.specs.declared.KeyKind.TheVariants.{ClockKey, TombstoneKey, LabelKey, EndKey}
-use Rattle.keys.specs.Key.{type_byte, has_label, has_actor, prefix_fixed}
-use Rattle.keys.specs.Read.{name_length, label_length, fields_as, is_key, found_key}
+use Rattle.keys.specs.Key.{has_label, has_actor, prefix_fixed}
+use Rattle.keys.specs.Read.{name_length, label_length, fields_as, is_key, found_key, read_as}
 use Rattle.keys.specs.Parts.{tail_length}
 use Rattle.keys.proofs.RoundTrip.{key-size, key-short}
 use borrow.Author.Rules.{rules}
@@ -28,8 +28,8 @@ module _ (s t : Bytes) (kind : KeyKind) (n l : ℕ) (key : is_key kind s ≡ tru
   sum_fits : (x : ℕ) → x ≤ 15 → Fits w64 (n + l + x)
   sum_fits x small = let short = key-short kind s key in let same = label-length in record { fits = omega arith }
 
-  counter-room : (h : Bool) → h ≡ has_label kind → cond h (n + l + 7 + 8) 0 ≤ length s
-  counter-room h e = rw (e, size) (by_kind kind)
+  counter-room : cond (has_label kind) (n + l + 7 + 8) 0 ≤ length s
+  counter-room = rw size (by_kind kind)
     where
       by_kind : (k : KeyKind) → cond (has_label k) (n + l + 7 + 8) 0 ≤ n + l + (prefix_fixed + tail_length k)
       by_kind ClockKey = omega arith
@@ -37,19 +37,13 @@ module _ (s t : Bytes) (kind : KeyKind) (n l : ℕ) (key : is_key kind s ≡ tru
       by_kind LabelKey = omega arith
       by_kind EndKey = omega arith
 
-  found : (h a : Bool) (b x c : ℕ) (p : Span) → h ≡ has_label kind → a ≡ has_actor kind → b ≡ type_byte kind → p ≡ cond h (span (n + prefix_fixed) l) (span 0 0) → x ≡ cond a (byte_at s (n + l + 5)) 0 → c ≡ cond h (number_at 8 s (n + l + 7)) 0
-      → record { answer = Done; kind = b; name = span 2 n; label = p; actor = x; counter = c } ≡ found_key kind s
+  found : (x c : ℕ) (p : Span) → p ≡ cond (has_label kind) (span (n + prefix_fixed) l) (span 0 0) → x ≡ cond (has_actor kind) (byte_at s (n + l + 5)) 0 → c ≡ cond (has_label kind) (number_at 8 s (n + l + 7)) 0
+      → read_as (Ok (record { kind = kind; name = span 2 n; label = p; actor = x; counter = c })) ≡ found_key kind s
   unfolding fields_as
-  found h a b x c p e f g i j k = rw (i, j, k, e, f, g, label-length, name)
+  found x c p g i j = rw (i, j, g, label-length, name)
 
-pub overflow_add-n-4 : goal.overflow_add-n-4
-overflow_add-n-4 c = search (rules, sum_fits)
-
-pub overflow_add-n-6 : goal.overflow_add-n-6
-overflow_add-n-6 c = search (rules, sum_fits)
-
-pub counter_at-counter-requires : goal.counter_at-counter-requires
-counter_at-counter-requires c = search (rules, counter-room)
+pub counter_at-requires : goal.counter_at-requires
+counter_at-requires c = search (rules, counter-room)
 
 pub returns : goal.returns
 returns c = search (rules, found)

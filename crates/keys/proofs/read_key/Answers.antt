@@ -1,35 +1,39 @@
 -- The type byte decides the type, and the tests of that type decide.
 use Prim.Native.Nat.{ℕ, ◌+◌}
 use mathlib.Core.Path.{◌≡◌, sym, ◌∙◌}
+use Rattle.std.specs.Prelude.{Ok, Err}
 use mathlib.Core.Bool.{Bool, true, false, cond}
 use Rattle.wire.specs.Bytes.{Bytes, byte_at}
+use Rattle.dots.specs.declared.Answer.{Answer}
+use Rattle.dots.specs.declared.Answer.TheVariants.{BadShape}
 use Rattle.keys.specs.declared.KeyKind.{KeyKind}
-use Rattle.keys.specs.declared.KeyRead.{KeyRead}
-use Rattle.keys.specs.Read.{name_length, is_key, found_key, no_key, read_key}
+use Rattle.keys.specs.declared.KeyFields.{KeyFields}
+use Rattle.keys.specs.Key.{type_byte}
+use Rattle.keys.specs.Read.{name_length, is_key, found_key, no_key, read_key, read_as}
 use Rattle.keys.specs.Tests.{kind_of}
-use Rattle.keys.proofs.Reading.{read_by_type}
+use Rattle.keys.proofs.Reading.{read_by_type, read_unknown}
 use borrow.Author.Rules.{rules}
 use Rattle.keys.proofs.read_key.Goals as goal
 
-module _ (s : Bytes) (kind : KeyKind) (key : Bool) (tested : key ≡ is_key kind s) where
-  accepted : key ≡ true → is_key kind s ≡ true
-  accepted h = sym tested ∙ h
+module _ (s : Bytes) (n b : ℕ) (name : n ≡ name_length s) (byte : b ≡ byte_at s (n + 3)) where
+  unknown : (a : Answer) → (a ≡ BadShape) × (type_byte (kind_of b) ≡ b → ⊥) → read_as (Err a) ≡ read_key s
+  unknown a h = rw h.0 (sym (read_unknown s b (byte ∙ rw name) h.1))
 
-  module _ (n b : ℕ) (r : KeyRead) (name : n ≡ name_length s) (byte : b ≡ byte_at s (n + 3)) (typed : kind ≡ kind_of b) where
+  module _ (kind : KeyKind) (typed : kind ≡ kind_of b) (key : Bool) (tested : key ≡ is_key kind s) where
     by-type : read_key s ≡ cond key (found_key kind s) no_key
     by-type = rw tested (read_by_type s kind (typed ∙ rw (byte, name)))
 
-    found : key ≡ true → r ≡ found_key kind s → r ≡ read_key s
-    found h e = rw (by-type, h) e
+    found : (r : KeyFields) → key ≡ true → read_as (Ok r) ≡ found_key kind s → read_as (Ok r) ≡ read_key s
+    found r h e = rw (by-type, h) e
 
-    none : key ≡ false → r ≡ no_key → r ≡ read_key s
-    none h e = rw (by-type, h) e
+    none : key ≡ false → read_as (Err BadShape) ≡ read_key s
+    none h = rw (by-type, h)
 
-pub found_key-requires : goal.found_key-requires
-found_key-requires c = (search (rules, accepted), search rules, search rules)
+pub returns-in_err-kind : goal.returns-in_err-kind
+returns-in_err-kind c = search (rules, unknown)
 
 pub returns-then-is_key : goal.returns-then-is_key
 returns-then-is_key c = search (rules, found)
 
-pub returns : goal.returns
-returns c = search (rules, none)
+pub returns-else-is_key : goal.returns-else-is_key
+returns-else-is_key c = search (rules, none)

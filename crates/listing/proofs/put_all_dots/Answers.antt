@@ -1,21 +1,24 @@
-use Rattle.listing.proofs.PutLines.{size-within, dot-room, walk_start, every_end, all_room, walk-all}
-use borrow.Author.Rules.{rules}
+use mathlib.Core.Path.{refl}
+use native.Mathlib.Omega.{arith}
+use Rattle.listing.proofs.PutLines.{chunks_start, key-long, chunk_room, chunk_put, chunks_end, every_room, every_end}
 use Rattle.listing.proofs.put_all_dots.Goals as goal
 
-pub loop-at-init : goal.loop-at-init
-loop-at-init c = search (rules, walk_start)
-
-pub overflow_add-end : goal.overflow_add-end
-overflow_add-end c = search (rules, size-within)
-
-pub slice_bounds-put_key_dot-end : goal.slice_bounds-put_key_dot-end
-slice_bounds-put_key_dot-end c = search (rules, size-within)
+pub loop-key-init : goal.loop-key-init
+loop-key-init c = chunks_start _ _ _ _ _ c.requires.2 _ _ (rw c.into_iter-key-iterator.ensures.into_iter_gives c.chunks_exact-key-items.ensures.rest)
+    (rw c.into_iter-key-iterator.ensures.into_iter_gives c.chunks_exact-key-items.ensures.size)
 
 pub put_key_dot-next-requires : goal.put_key_dot-next-requires
-put_key_dot-next-requires c = search (rules, dot-room, all_room)
+put_key_dot-next-requires c =
+    let cut = c.in-Some.ensures.steps.1 in (
+      key-long _ _ _ _ _ _ _ _ _ c.loop-key.invariant (omega arith) _ _ cut.0 cut.1 (omega arith),
+      chunk_room _ _ _ _ _ _ _ _ _ c.loop-key.invariant (omega arith) _ _ cut.0 cut.1 _ refl refl (every_room _ _ _ c.requires.3),
+    )
 
-pub loop-at-preserved : goal.loop-at-preserved
-loop-at-preserved c = search (rules, walk-all)
+pub loop-key-preserved : goal.loop-key-preserved
+loop-key-preserved c =
+    let cut = c.in-Some.ensures.steps.1 in
+    chunk_put _ _ _ _ _ _ _ _ _ c.loop-key.invariant (omega arith) _ _ cut.0 cut.1 _ refl refl (every_room _ _ _ c.requires.3)
+    _ _ c.put_key_dot-next.ensures.0 c.put_key_dot-next.ensures.1 c.put_key_dot-next.auto.out _ c.in-Some.ensures.steps.0
 
 pub returns : goal.returns
-returns c = search (rules, every_end)
+returns c = every_end _ _ _ _ (chunks_end _ _ _ _ _ _ _ _ _ c.loop-key.invariant c.in-None.ensures.steps.1.0)

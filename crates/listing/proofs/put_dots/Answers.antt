@@ -1,30 +1,33 @@
-use Rattle.listing.proofs.PutLines.{size-within, dot-room, walk_start, walk_end, walk-dead, put-room, walk-live}
-use borrow.Author.Rules.{rules}
+use mathlib.Core.Path.{sym, ap, ◌∙◌}
+use mathlib.Core.Bool.{not}
+use native.Mathlib.Omega.{arith}
+use Rattle.listing.proofs.PutLines.{chunks_start, key-long, chunk_past, chunk_room, chunk_put, chunks_end}
 use Rattle.listing.proofs.put_dots.Goals as goal
 
-pub loop-at-init : goal.loop-at-init
-loop-at-init c = search (rules, walk_start)
+pub loop-key-init : goal.loop-key-init
+loop-key-init c = chunks_start _ _ _ _ _ c.requires.2 _ _ (rw c.into_iter-key-iterator.ensures.into_iter_gives c.chunks_exact-key-items.ensures.rest)
+    (rw c.into_iter-key-iterator.ensures.into_iter_gives c.chunks_exact-key-items.ensures.size)
 
-pub overflow_add-end : goal.overflow_add-end
-overflow_add-end c = search (rules, size-within)
-
-pub slice_bounds-key_dot-end : goal.slice_bounds-key_dot-end
-slice_bounds-key_dot-end c = search (rules, size-within)
-
-pub key_dot-dot-requires : goal.key_dot-dot-requires
-key_dot-dot-requires c = search (rules, dot-room)
-
-pub slice_bounds-put_key_dot-end : goal.slice_bounds-put_key_dot-end
-slice_bounds-put_key_dot-end c = search (rules, size-within)
+pub key_dot-requires : goal.key_dot-requires
+key_dot-requires c = let cut = c.in-Some.ensures.steps.1 in key-long _ _ _ _ _ _ _ _ _ c.loop-key.invariant (omega arith) _ _ cut.0 cut.1 (omega arith)
 
 pub put_key_dot-next-requires : goal.put_key_dot-next-requires
-put_key_dot-next-requires c = search (rules, dot-room, put-room)
+put_key_dot-next-requires c =
+    let cut = c.in-Some.ensures.steps.1 in (
+      key-long _ _ _ _ _ _ _ _ _ c.loop-key.invariant (omega arith) _ _ cut.0 cut.1 (omega arith),
+      chunk_room _ _ _ _ _ _ _ _ _ c.loop-key.invariant (omega arith) _ _ cut.0 cut.1 _ c.key_dot.ensures (ap not (sym c.holds.ensures ∙ c.if-not-holds.true)) c.requires.3,
+    )
 
-pub loop-at-preserved-then-not-holds_slotted : goal.loop-at-preserved-then-not-holds_slotted
-loop-at-preserved-then-not-holds_slotted c = search (rules, walk-live)
+pub loop-key-preserved-then-not-holds : goal.loop-key-preserved-then-not-holds
+loop-key-preserved-then-not-holds c =
+    let cut = c.in-Some.ensures.steps.1 in
+    chunk_put _ _ _ _ _ _ _ _ _ c.loop-key.invariant (omega arith) _ _ cut.0 cut.1 _ c.key_dot.ensures (ap not (sym c.holds.ensures ∙ c.if-not-holds.true)) c.requires.3
+    _ _ c.put_key_dot-next.ensures.0 c.put_key_dot-next.ensures.1 c.put_key_dot-next.auto.out _ c.in-Some.ensures.steps.0
 
-pub loop-at-preserved : goal.loop-at-preserved
-loop-at-preserved c = search (rules, walk-dead)
+pub loop-key-preserved : goal.loop-key-preserved
+loop-key-preserved c =
+    let cut = c.in-Some.ensures.steps.1 in
+    chunk_past _ _ _ _ _ _ _ _ _ c.loop-key.invariant (omega arith) _ _ cut.0 cut.1 _ c.key_dot.ensures (ap not (sym c.holds.ensures ∙ c.if-not-holds.false)) _ c.in-Some.ensures.steps.0
 
 pub returns : goal.returns
-returns c = search (rules, walk_end)
+returns c = chunks_end _ _ _ _ _ _ _ _ _ c.loop-key.invariant c.in-None.ensures.steps.1.0

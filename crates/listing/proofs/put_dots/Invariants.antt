@@ -1,13 +1,9 @@
--- The invariant: the dots put so far, with those of the keys from `at` on, are the listed dots.
-use Prim.Native.Nat.{◌-◌}
-use lib.ListN.{length}
+-- The invariant: the dots put so far, with those of the keys that are left, are the listed dots.
+use Rattle.std.specs.Slice.Iter.{chunks_exact_rest, chunks_exact_size}
 use Rattle.dots.specs.Wire.{dots_of}
-use Rattle.listing.proofs.PutLines.{DotsWalk}
 use Rattle.listing.specs.Listing.{is_live}
+use Rattle.listing.proofs.PutLines.{ChunksWalk}
 use Rattle.listing.proofs.put_dots.Given as goal
 
-abbrev pub invariant-loop-at : goal.invariant-loop-at
-invariant-loop-at l = DotsWalk l.n l.keys (is_live (dots_of l.tombstone)) l.size l.initial.out l.out l.next l.at
-
-abbrev pub decreases-loop-at : goal.decreases-loop-at
-decreases-loop-at l = length l.keys - l.at
+abbrev pub invariant-loop-key : goal.invariant-loop-key
+invariant-loop-key l = ChunksWalk l.n l.keys (is_live (dots_of l.dead.dots.now)) l.size l.initial.out l.out l.next (chunks_exact_rest l.key-iterator) (chunks_exact_size l.key-iterator)

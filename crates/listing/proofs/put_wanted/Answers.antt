@@ -46,7 +46,7 @@ returns-then-counted c = search (rules, too_short)
 
 pub returns : goal.returns
 returns c =
-    let room : Ready (key_lines c.args.n c.args.keys.now c.args.tombstone.now) c.args.all c.args.out.now c.if-all-out.out =
+    let room : Ready (key_lines c.args.n c.args.keys.now c.args.dead.dots.now) c.args.all c.args.out.now c.if-all-out.out =
     elim c.if-all-out.branch [
       | then-all-out+else-counted w ↦ record { same = w.out-is ∙ w.put_lines-counted.ensures.counts refl; room = counted _ _ _ _ _ w.put_lines-counted.ensures w.if-counted.false }
       | else-all-out w ↦ record { same = w.out-is; room = as_long _ _ _ _ _ c.requires.2 w.if-all-out.false }

@@ -1,53 +1,64 @@
+use mathlib.Core.Path.{◌≡◌, refl, ap, ◌∙◌}
+use mathlib.Core.Bool.{Bool, true, false, cond}
+use Prim.Native.Nat.{ℕ, ◌+◌, ◌≤◌}
 use native.Mathlib.Omega.{arith}
-use Rattle.merge.specs.Kept.{sides_of}
+use lib.Dec.{ltb}
+use mir.Val.{bool_byte}
 use Rattle.merge.proofs.AllLines.{lines-short, lines_start, parts-left, few-labels, part_bytes, can_put, lines-on, fewer-left, all-merged}
 use Rattle.merge.proofs.merge_lines.Goals as goal
 
-pub loop-run-init : goal.loop-run-init
-loop-run-init c = lines_start _ _ _ _ _ _ c.requires.can_merge.keys.same_set
+one_if : (b : Bool) → bool_byte b ≡ cond b 1 0
+one_if true = refl
+one_if false = refl
 
-pub next_label-next-requires : goal.next_label-next-requires
-next_label-next-requires c = (c.requires.can_merge.keys.short-name, parts-left _ _ _ _ _ _ _ _ _ _ _ c.loop-run.invariant)
+one_most : (b : Bool) → bool_byte b ≤ 1
+one_most true = omega arith
+one_most false = omega arith
 
-pub returns-then-next-eq0 : goal.returns-then-next-eq0
-returns-then-next-eq0 c = all-merged c.args.run _ _ _ _ _ _ _ _ _ c.loop-run.invariant _ c.next_label-next.ensures c.if-next-eq0.true
+pub loop-next-init : goal.loop-next-init
+loop-next-init c = lines_start _ _ _ _ _ _ c.requires.keys.same_set
+
+pub next_label-requires : goal.next_label-requires
+next_label-requires c = (c.requires.keys.short-name, parts-left _ _ _ _ _ _ _ _ _ _ _ c.loop-next.invariant)
 
 pub put_line-size-requires : goal.put_line-size-requires
-put_line-size-requires c = rw c.spot_in-spot.ensures (record {
-  two_tombstones = c.requires.two_tombstones;
-  can_put = can_put _ _ _ _ _ _ _ _ _ _ _ c.loop-run.invariant _ c.next_label-next.ensures c.if-next-eq0.false _ c.requires.can_merge.keys c.requires.can_merge.has_room;
-})
+put_line-size-requires c = can_put _ _ _ _ _ _ _ _ _ _ _ c.loop-next.invariant _ c.in-Some.ensures c.requires.keys c.requires.has_room
 
-pub add_if-labels-requires : goal.add_if-labels-requires
-add_if-labels-requires c =
-    let w = c.loop-run.invariant in
-    let p = c.requires.can_merge in
-    let h = p.keys.first_short in
-    let k = p.keys.second_short in
+pub overflow_add-labels : goal.overflow_add-labels
+overflow_add-labels c =
+    let w = c.loop-next.invariant in
+    let p = c.requires.keys in
+    let h = p.first_short in
+    let k = p.second_short in
     omega (
       arith,
       few-labels _ _ _ _ _ _ _ _ _ _ _ w,
-      part_bytes _ _ _ _ _ _ _ _ _ _ _ w _ c.next_label-next.ensures c.if-next-eq0.false,
-      lines-short _ (sides_of c.args.dead.now c.args.run.split c.args.here.now c.args.there.now) _ _ p.keys.same_set,
+      part_bytes _ _ _ _ _ _ _ _ _ _ _ w _ c.in-Some.ensures,
+      lines-short _ c.args.sides.now _ _ p.same_set,
+      c.from-labels.ensures,
+      one_most (ltb 0 c.put_line-size.result),
     )
 
 pub overflow_add-bytes : goal.overflow_add-bytes
 overflow_add-bytes c =
-    let w = c.loop-run.invariant in
-    let p = c.requires.can_merge in
-    let h = p.keys.first_short in
-    let k = p.keys.second_short in
+    let w = c.loop-next.invariant in
+    let p = c.requires.keys in
+    let h = p.first_short in
+    let k = p.second_short in
     omega (
       arith,
-      part_bytes _ _ _ _ _ _ _ _ _ _ _ w _ c.next_label-next.ensures c.if-next-eq0.false,
-      rw c.spot_in-spot.ensures at c.put_line-size.ensures.0,
-      lines-short _ (sides_of c.args.dead.now c.args.run.split c.args.here.now c.args.there.now) _ _ p.keys.same_set,
+      part_bytes _ _ _ _ _ _ _ _ _ _ _ w _ c.in-Some.ensures,
+      c.put_line-size.ensures.0,
+      lines-short _ c.args.sides.now _ _ p.same_set,
     )
 
-pub loop-run-smaller : goal.loop-run-smaller
-loop-run-smaller c = fewer-left _ _ _ _ _ _ _ _ _ _ _ c.loop-run.invariant _ c.next_label-next.ensures c.if-next-eq0.false
+pub loop-next-preserved : goal.loop-next-preserved
+loop-next-preserved c =
+    lines-on _ _ _ _ _ _ _ _ _ _ _ c.loop-next.invariant _ c.in-Some.ensures _ _ c.put_line-size.ensures.0 c.put_line-size.ensures.1 c.requires.has_room
+    _ (ap (λ (m : ℕ). c.loop-next.labels + m) (c.from-labels.ensures ∙ one_if _))
 
-pub loop-run-preserved : goal.loop-run-preserved
-loop-run-preserved c =
-    lines-on _ _ _ _ _ _ _ _ _ _ _ c.loop-run.invariant _ c.next_label-next.ensures c.if-next-eq0.false _ _
-    (rw c.spot_in-spot.ensures at c.put_line-size.ensures.0) (rw c.spot_in-spot.ensures at c.put_line-size.ensures.1) c.requires.can_merge.has_room _ c.add_if-labels.ensures
+pub loop-next-smaller : goal.loop-next-smaller
+loop-next-smaller c = fewer-left _ _ _ _ _ _ _ _ _ _ _ c.loop-next.invariant _ c.in-Some.ensures
+
+pub returns : goal.returns
+returns c = all-merged _ _ _ _ _ _ _ _ _ _ _ c.loop-next.invariant c.in_default.ensures

@@ -1,88 +1,113 @@
-use mathlib.Core.Path.{◌≡◌, sym, ap₂, ◌∙◌}
-use mathlib.Core.Bool.{Bool, true, false, ◌||◌, true≢false}
-use mathlib.Core.List.{[]}
-use Prim.Native.Nat.{ℕ, ◌≤◌}
+use mathlib.Core.Path.{◌≡◌, refl, sym, ◌∙◌}
+use mathlib.Core.Bool.{Bool, true, false, cond}
+use Prim.Native.Nat.{ℕ, ◌+◌, ◌*◌}
+use native.Mathlib.Nat.{add-zero}
 use native.Mathlib.Omega.{arith}
-use lib.Dec.{ltb}
-use lib.ListN.{length}
-use borrow.Author.Tests.{le-ltb, ltb-false}
-use Rattle.wire.specs.Lists.{cons_if}
-use Rattle.wire.proofs.Tests.{neither_left, neither_right}
-use Rattle.dots.specs.declared.Dot.{Dot}
-use Rattle.merge.specs.Kept.{next_of}
-use Rattle.merge.proofs.KeptDots.{walk_start, walk_end, few-done, falls, one_more, walk-on, label-short, dots-low, dot-room}
+use Rattle.merge.proofs.KeptDots.{walk_start, all-walked, few-done, falls, one_more, walk-on, label-short, dots-low, dot-room}
+use Rattle.merge.proofs.Puts.{PutIf, put_kept, put_not_kept}
 use Rattle.merge.proofs.put_kept.Goals as goal
+use Rattle.merge.proofs.put_kept.Goals.{then-keeps, else-keeps, then-next, else-next}
 
-some_left : (i j m n : ℕ) → (ltb i m || ltb j n) ≡ true → m ≤ i → n ≤ j → ⊥
-some_left i j m n t h k = let none : (ltb i m || ltb j n) ≡ false = rw (le-ltb i m h, le-ltb j n k) in true≢false (sym t ∙ none)
+-- where a place goes on if a store holds the dot
+moved : (b : Bool) (x y size : ℕ) → b ≡ true → y ≡ x + size → y ≡ x + cond b size 0
+moved b x y size t e = rw t e
 
-none_left : (i j m n : ℕ) → (ltb i m || ltb j n) ≡ false → (m ≤ i) × (n ≤ j)
-none_left i j m n f = (ltb-false i m (neither_left (ltb i m) (ltb j n) f), ltb-false j n (neither_right (ltb i m) (ltb j n) f))
-
-one_most : (k : Bool) (d : Dot) (r : ℕ) → r ≡ length (cons_if k d []) → r ≤ 1
-one_most true d r e = omega arith
-one_most false d r e = omega arith
+unmoved : (b : Bool) (x y size : ℕ) → b ≡ false → y ≡ x → y ≡ x + cond b size 0
+unmoved b x y size f e = rw f (e ∙ sym (add-zero x))
 
 pub overflow_add-size : goal.overflow_add-size
-overflow_add-size c = let h = c.requires.can_put.short-name in omega (arith, label-short _ _ _ _ _ c.requires.can_put)
+overflow_add-size c = let h = c.requires.short-name in omega (arith, label-short _ _ _ _ _ c.requires)
 
 pub overflow_add-size-2 : goal.overflow_add-size-2
-overflow_add-size-2 c = let h = c.requires.can_put.short-name in omega (arith, label-short _ _ _ _ _ c.requires.can_put)
+overflow_add-size-2 c = let h = c.requires.short-name in omega (arith, label-short _ _ _ _ _ c.requires)
 
 pub overflow_add-from : goal.overflow_add-from
-overflow_add-from c = let h = c.requires.can_put.place-low in omega (arith, label-short _ _ _ _ _ c.requires.can_put)
+overflow_add-from c = let h = c.requires.place-low in omega (arith, label-short _ _ _ _ _ c.requires)
 
 pub overflow_add-from-2 : goal.overflow_add-from-2
-overflow_add-from-2 c = let h = c.requires.can_put.place-low in omega (arith, label-short _ _ _ _ _ c.requires.can_put)
+overflow_add-from-2 c = let h = c.requires.place-low in omega (arith, label-short _ _ _ _ _ c.requires)
 
-pub loop-i-init : goal.loop-i-init
-loop-i-init c = walk_start _ _ _ _ _ _ _ _ c.requires.can_put.label-keys
+pub loop-next-init : goal.loop-next-init
+loop-next-init c = walk_start _ _ _ _ _ _ _ _ c.requires.label-keys
 
 pub overflow_mul-count : goal.overflow_mul-count
-overflow_mul-count c = let w = c.loop-i.invariant in
-    omega (arith, few-done _ _ _ _ _ _ _ _ _ _ _ _ w, w.counted, dots-low _ _ _ _ _ c.requires.can_put)
+overflow_mul-count c = let w = c.loop-next.invariant in
+    omega (arith, few-done _ _ _ _ _ _ _ _ _ _ _ _ w, w.counted, dots-low _ _ _ _ _ c.requires)
 
-pub overflow_add-from-in-loop-i : goal.overflow_add-from-in-loop-i
-overflow_add-from-in-loop-i c = let w = c.loop-i.invariant in
-    let h = c.requires.can_put.place-low in
-    omega (arith, few-done _ _ _ _ _ _ _ _ _ _ _ _ w, w.counted, dots-low _ _ _ _ _ c.requires.can_put, label-short _ _ _ _ _ c.requires.can_put)
+pub overflow_add-from-then-keeps : goal.overflow_add-from-then-keeps
+overflow_add-from-then-keeps c = let w = c.loop-next.invariant in
+    let h = c.requires.place-low in
+    omega (arith, few-done _ _ _ _ _ _ _ _ _ _ _ _ w, w.counted, dots-low _ _ _ _ _ c.requires, label-short _ _ _ _ _ c.requires)
 
-pub put_dot-count-requires : goal.put_dot-count-requires
-put_dot-count-requires c = let w = c.loop-i.invariant in
-    λ kept wet.
-    let more = one_more _ _ _ _ _ _ _ _ _ _ _ _ w (some_left _ _ _ _ c.loop-i-test.true) _ (c.lower_dot-next.ensures ∙ ap₂ next_of c.first_dot.ensures c.first_dot-in-loop-i.ensures) _ c.keeps-kept.ensures kept in
-    omega (arith, dot-room _ _ _ _ _ c.requires.can_put wet _ more, w.same_size)
+pub put_dot-requires : goal.put_dot-requires
+put_dot-requires c = let w = c.loop-next.invariant in
+    λ wet. omega (arith, dot-room _ _ _ _ _ c.requires wet _ (one_more _ _ _ _ _ _ _ _ _ _ _ _ w _ (sym c.in-Some.is ∙ c.next_dot.ensures) _ c.keeps.ensures c.if-keeps.true), w.same_size)
 
 pub overflow_add-count : goal.overflow_add-count
-overflow_add-count c = let w = c.loop-i.invariant in
-    omega (arith, few-done _ _ _ _ _ _ _ _ _ _ _ _ w, w.counted, dots-low _ _ _ _ _ c.requires.can_put, one_most c.keeps-kept.result c.lower_dot-next.result.dot _ c.put_dot-count.ensures.0)
+overflow_add-count c = let w = c.loop-next.invariant in
+    omega (arith, few-done _ _ _ _ _ _ _ _ _ _ _ _ w, w.counted, dots-low _ _ _ _ _ c.requires)
 
-pub add_if-i-requires : goal.add_if-i-requires
-add_if-i-requires c = let w = c.loop-i.invariant in
-    let h = c.requires.can_put.short-name in
-    let f = c.requires.can_put.first_short in
+pub overflow_add-i : goal.overflow_add-i
+overflow_add-i c = let w = c.loop-next.invariant in
+    let h = c.requires.short-name in
+    let f = c.requires.first_short in
     let i = w.first-within in
-    omega (arith, label-short _ _ _ _ _ c.requires.can_put)
+    omega (arith, label-short _ _ _ _ _ c.requires)
 
-pub add_if-j-requires : goal.add_if-j-requires
-add_if-j-requires c = let w = c.loop-i.invariant in
-    let h = c.requires.can_put.short-name in
-    let f = c.requires.can_put.second_short in
+pub overflow_add-j : goal.overflow_add-j
+overflow_add-j c = let w = c.loop-next.invariant in
+    let h = c.requires.short-name in
+    let f = c.requires.second_short in
     let i = w.second-within in
-    omega (arith, label-short _ _ _ _ _ c.requires.can_put)
+    omega (arith, label-short _ _ _ _ _ c.requires)
 
-pub loop-i-smaller : goal.loop-i-smaller
-loop-i-smaller c = let w = c.loop-i.invariant in
-    let comes = c.lower_dot-next.ensures ∙ ap₂ next_of c.first_dot.ensures c.first_dot-in-loop-i.ensures in
-    omega (arith, falls _ _ _ _ _ _ _ _ _ _ _ _ w (some_left _ _ _ _ c.loop-i-test.true) _ comes, c.add_if-i.ensures, c.add_if-j.ensures)
+pub loop-next-smaller-then-next-2 : goal.loop-next-smaller-then-next-2
+loop-next-smaller-then-next-2 c =
+    let i : c.if-next.i ≡ c.loop-next.i + cond c.in-Some.next.first (c.args.spot.n + c.args.spot.len + 15) 0 = elim c.if-next.branch [
+      | then-next v ↦ moved _ _ _ _ v.if-next.true v.i-is
+      | else-next v ↦ unmoved _ _ _ _ v.if-next.false v.i-is
+    ] in
+    omega (arith, falls _ _ _ _ _ _ _ _ _ _ _ _ c.loop-next.invariant _ (sym c.in-Some.is ∙ c.next_dot.ensures), i, moved c.in-Some.next.second c.loop-next.j _ (c.args.spot.n + c.args.spot.len + 15) c.if-next-2.true refl)
 
-pub loop-i-preserved : goal.loop-i-preserved
-loop-i-preserved c = let w = c.loop-i.invariant in
-    let comes = c.lower_dot-next.ensures ∙ ap₂ next_of c.first_dot.ensures c.first_dot-in-loop-i.ensures in
-    walk-on _ _ _ _ _ _ _ _ _ _ _ _ w (some_left _ _ _ _ c.loop-i-test.true) _ comes _ c.keeps-kept.ensures _ _ c.add_if-i.ensures c.add_if-j.ensures _ _
-    c.put_dot-count.ensures.0 c.put_dot-count.ensures.1
-    (λ kept wet. dot-room _ _ _ _ _ c.requires.can_put wet _ (one_more _ _ _ _ _ _ _ _ _ _ _ _ w (some_left _ _ _ _ c.loop-i-test.true) _ comes _ c.keeps-kept.ensures kept))
+pub loop-next-smaller : goal.loop-next-smaller
+loop-next-smaller c =
+    let i : c.if-next.i ≡ c.loop-next.i + cond c.in-Some.next.first (c.args.spot.n + c.args.spot.len + 15) 0 = elim c.if-next.branch [
+      | then-next v ↦ moved _ _ _ _ v.if-next.true v.i-is
+      | else-next v ↦ unmoved _ _ _ _ v.if-next.false v.i-is
+    ] in
+    omega (arith, falls _ _ _ _ _ _ _ _ _ _ _ _ c.loop-next.invariant _ (sym c.in-Some.is ∙ c.next_dot.ensures), i, unmoved c.in-Some.next.second c.loop-next.j _ (c.args.spot.n + c.args.spot.len + 15) c.if-next-2.false refl)
+
+pub loop-next-preserved-then-next-2 : goal.loop-next-preserved-then-next-2
+loop-next-preserved-then-next-2 c =
+    let w = c.loop-next.invariant in
+    let comes = sym c.in-Some.is ∙ c.next_dot.ensures in
+    let i : c.if-next.i ≡ c.loop-next.i + cond c.in-Some.next.first (c.args.spot.n + c.args.spot.len + 15) 0 = elim c.if-next.branch [
+      | then-next v ↦ moved _ _ _ _ v.if-next.true v.i-is
+      | else-next v ↦ unmoved _ _ _ _ v.if-next.false v.i-is
+    ] in
+    let put : PutIf c.keeps.result c.args.spot.dry c.in-Some.next.dot (c.args.spot.at + c.args.spot.len + 3 + 9 * c.loop-next.count) c.loop-next.out c.if-keeps.out c.loop-next.count c.if-keeps.count =
+    elim c.if-keeps.branch [
+      | then-keeps v ↦ put_kept c.keeps.result c.args.spot.dry c.in-Some.next.dot (c.args.spot.at + c.args.spot.len + 3 + 9 * c.loop-next.count) c.loop-next.out c.if-keeps.out c.loop-next.count c.if-keeps.count v.if-keeps.true v.count-is (v.out-is ∙ v.put_dot.ensures)
+      | else-keeps v ↦ put_not_kept c.keeps.result c.args.spot.dry c.in-Some.next.dot (c.args.spot.at + c.args.spot.len + 3 + 9 * c.loop-next.count) c.loop-next.out c.if-keeps.out c.loop-next.count c.if-keeps.count v.if-keeps.false v.count-is v.out-is
+    ] in
+    walk-on _ _ _ _ _ _ _ _ _ _ _ _ w _ comes _ c.keeps.ensures _ _ i (moved c.in-Some.next.second c.loop-next.j _ (c.args.spot.n + c.args.spot.len + 15) c.if-next-2.true refl) _ _ put
+    (λ kept wet. dot-room _ _ _ _ _ c.requires wet _ (one_more _ _ _ _ _ _ _ _ _ _ _ _ w _ comes _ c.keeps.ensures kept))
+
+pub loop-next-preserved : goal.loop-next-preserved
+loop-next-preserved c =
+    let w = c.loop-next.invariant in
+    let comes = sym c.in-Some.is ∙ c.next_dot.ensures in
+    let i : c.if-next.i ≡ c.loop-next.i + cond c.in-Some.next.first (c.args.spot.n + c.args.spot.len + 15) 0 = elim c.if-next.branch [
+      | then-next v ↦ moved _ _ _ _ v.if-next.true v.i-is
+      | else-next v ↦ unmoved _ _ _ _ v.if-next.false v.i-is
+    ] in
+    let put : PutIf c.keeps.result c.args.spot.dry c.in-Some.next.dot (c.args.spot.at + c.args.spot.len + 3 + 9 * c.loop-next.count) c.loop-next.out c.if-keeps.out c.loop-next.count c.if-keeps.count =
+    elim c.if-keeps.branch [
+      | then-keeps v ↦ put_kept c.keeps.result c.args.spot.dry c.in-Some.next.dot (c.args.spot.at + c.args.spot.len + 3 + 9 * c.loop-next.count) c.loop-next.out c.if-keeps.out c.loop-next.count c.if-keeps.count v.if-keeps.true v.count-is (v.out-is ∙ v.put_dot.ensures)
+      | else-keeps v ↦ put_not_kept c.keeps.result c.args.spot.dry c.in-Some.next.dot (c.args.spot.at + c.args.spot.len + 3 + 9 * c.loop-next.count) c.loop-next.out c.if-keeps.out c.loop-next.count c.if-keeps.count v.if-keeps.false v.count-is v.out-is
+    ] in
+    walk-on _ _ _ _ _ _ _ _ _ _ _ _ w _ comes _ c.keeps.ensures _ _ i (unmoved c.in-Some.next.second c.loop-next.j _ (c.args.spot.n + c.args.spot.len + 15) c.if-next-2.false refl) _ _ put
+    (λ kept wet. dot-room _ _ _ _ _ c.requires wet _ (one_more _ _ _ _ _ _ _ _ _ _ _ _ w _ comes _ c.keeps.ensures kept))
 
 pub returns : goal.returns
-returns c = let none = none_left c.loop-i.i c.loop-i.j (length c.args.a.now) (length c.args.b.now) c.loop-i-test.false in
-    walk_end _ _ _ _ _ _ _ _ _ _ _ _ c.loop-i.invariant none.0 none.1
+returns c = all-walked _ _ _ _ _ _ _ _ _ _ _ _ c.loop-next.invariant c.in_default.ensures

@@ -1,8 +1,20 @@
--- The definition follows the expression.
+-- The kind is one of the two; then the definition follows the expression.
+use Prim.Native.Nat.{ℕ, ◌+◌}
+use mathlib.Core.Path.{◌≡◌, refl}
+use lib.Dec.{eqb}
+use lib.ListN.{length}
+use Rattle.wire.specs.Bytes.{Bytes}
+use Rattle.wire.specs.declared.Span.{Span}
+use Rattle.messages.specs.declared.MessageKind.{MessageKind}
+use Rattle.messages.specs.declared.MessageKind.TheVariants.{Add, Remove}
 use Rattle.messages.specs.Read.{shape_ok}
-use borrow.Author.Rules.{rules}
+use Rattle.messages.specs.Layouts.{laid}
 use Rattle.messages.proofs.shape_ok.Goals as goal
 
-pub returns : goal.returns
+tested : (s : Bytes) (kind : MessageKind) (name label context : Span) (dot : ℕ) → eqb (context.at + context.len) (length s) ≡ shape_ok s (laid kind name label dot context)
 unfolding shape_ok
-returns c = search rules
+tested s Add name label context dot = refl
+tested s Remove name label context dot = refl
+
+pub returns : goal.returns
+returns c = tested c.args.s.now c.args.l.kind c.args.l.name c.args.l.label c.args.l.context c.args.l.dot

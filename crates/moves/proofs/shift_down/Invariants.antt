@@ -1,5 +1,5 @@
--- The invariant: the first i bytes are where they go, and the others still where they were. The measure is what is left to move.
-use Prim.Native.Nat.{ℕ, ◌-◌, ◌≤◌}
+-- The invariant: the first i bytes are where they go, and the others still where they were.
+use Prim.Native.Nat.{ℕ}
 use mathlib.Core.Path.{◌≡◌}
 use mathlib.Core.List.{List, ◌++◌}
 use lib.ListN.{length, take, drop}
@@ -10,7 +10,4 @@ abbrev pub moved : List ℕ → ℕ → ℕ → List ℕ
 moved s₀ by i = take i (drop by s₀) ++ drop i s₀
 
 abbrev pub invariant-loop-i : goal.invariant-loop-i
-invariant-loop-i l = (l.i ≤ l.left) × ((l.s ≡ moved l.initial.s l.by l.i) × (length l.s ≡ length l.initial.s))
-
-abbrev pub decreases-loop-i : goal.decreases-loop-i
-decreases-loop-i l = l.left - l.i
+invariant-loop-i l = (l.s ≡ moved l.initial.s l.by l.i) × (length l.s ≡ length l.initial.s)

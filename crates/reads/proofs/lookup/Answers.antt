@@ -1,61 +1,83 @@
 -- The first refusal that holds, with the empty stretch; else the stretch in the used part, and whether a key in it is live.
 use mathlib.Core.Bool.{true, false}
-use mathlib.Core.Path.{◌≡◌, sym}
+use mathlib.Core.Path.{◌≡◌, sym, ap, ◌∙◌}
+use native.Mathlib.Omega.{arith}
+use Rattle.dots.specs.declared.Answer.TheVariants.{Done}
+use Rattle.dots.specs.Answer.{number_of}
 use Rattle.dots.specs.Names.{label_ok}
-use Rattle.calls.specs.declared.State.{State}
-use Rattle.calls.specs.State.{Sized}
+use Rattle.calls.specs.State.{name_of, Sized}
 use Rattle.calls.specs.Damage.{damaged}
 use Rattle.calls.proofs.Clauses.{undamaged, name-ok, used-fits}
-use Rattle.judging.specs.Judging.{Judges}
 use Rattle.judging.proofs.DamageTest.{tells_damage, tells-place}
-use Rattle.judging.proofs.Heads.{at_head}
-use Rattle.reads.proofs.ReadCalls.{name_most_lem, name-fits, name-size, tombstone_most_lem, tombstone-ascends, look_is, may_look, not_looked_lem, stretch-fits, looked}
+use Rattle.judging.proofs.Parts.{front-size}
+use Rattle.reads.proofs.ReadCalls.{name_most_lem, name-fits, name-size, tombstone_most_lem, tombstone-ascends, part_of_store, look_is, may_look, not_looked_lem, stretch-fits, looked}
 use borrow.Author.Rules.{rules}
 use Rattle.reads.proofs.lookup.Goals as goal
-use Rattle.reads.proofs.lookup.Goals.{After-judge-judged, Else-refusal-ne0, Start}
+use Rattle.reads.proofs.lookup.Goals.{Else-ne, Then-ne, Start}
 
 -- the arrays of the state have their sizes
 sizes : (c : Start) → Sized c.args.state
 sizes c = search rules
 
--- what the pass over state and store told
-judged : (c : After-judge-judged) → Judges c.args.state c.args.store.now c.args.label.now c.judge-judged.result
-judged c = at_head c.args.state _ c.head_of-head.ensures (λ (x : State). Judges x c.args.store.now c.args.label.now c.judge-judged.result) c.judge-judged.ensures
+none : (e : Else-ne) → e.early_refusal-refusal.result ≡ Done
+none e = search rules
 
-may : (c : Else-refusal-ne0) → Judges c.args.state c.args.store.now c.args.label.now c.judge-judged.result → (damaged c.args.state c.args.store.now ≡ false) × (label_ok c.args.label.now ≡ true)
-may c j = may_look c.args.state c.args.store.now c.args.label.now _ (look_is c.args.state c.args.store.now c.args.label.now _ _ (tells_damage c.args.state c.args.store.now c.args.label.now _ j _ c.is_damage.ensures) c.lookup_number-refusal.ensures) c.if-refusal-ne0.false
+some : (e : Then-ne) → e.early_refusal-refusal.result ≡ Done → ⊥
+some e = search rules
 
-pub returns-then-refusal-ne0 : goal.returns-then-refusal-ne0
-returns-then-refusal-ne0 c = not_looked_lem c.args.state c.args.store _ c.args.label.now c.lookup_number-refusal.result (look_is c.args.state c.args.store.now c.args.label.now _ _ (tells_damage c.args.state c.args.store.now c.args.label.now _ (judged (goal.at.returns-then-refusal-ne0 c).After-judge-judged) _ c.is_damage.ensures) c.lookup_number-refusal.ensures) c.if-refusal-ne0.true (search rules)
+-- where there is no refusal, state and store are undamaged, and the label keeps its rule
+may : (e : Else-ne) → (damaged e.args.state e.args.store.now ≡ false) × (label_ok e.args.label.now ≡ true)
+may e =
+    may_look e.args.state e.args.store.now e.args.label.now _
+    (look_is e.args.state e.args.store.now e.args.label.now _ _ _ (tells_damage e.args.state e.args.store.now e.args.label.now _ e.judge-judged.ensures _ e.is_none.ensures) e.label_ok.ensures e.early_refusal-refusal.ensures)
+    (none e)
 
-pub slice_bounds-used_stretch-end : goal.slice_bounds-used_stretch-end
-slice_bounds-used_stretch-end c = sym (sizes (goal.at.slice_bounds-used_stretch-end c).Start).name-size
+pub returns-then-ne : goal.returns-then-ne
+returns-then-ne c =
+    not_looked_lem c.args.state c.args.store _ c.args.label.now _ c.from.result
+    (look_is c.args.state c.args.store.now c.args.label.now _ _ _ (tells_damage c.args.state c.args.store.now c.args.label.now _ c.judge-judged.ensures _ c.is_none.ensures) c.label_ok.ensures c.early_refusal-refusal.ensures)
+    c.from.ensures (some (goal.at.returns-then-ne c).Then-ne) (search rules)
 
-pub used_stretch-stretch-requires : goal.used_stretch-stretch-requires
-used_stretch-stretch-requires c = let st = c.args.state in
-    let store = c.args.store.now in
-    let u = undamaged st store (may (goal.at.used_stretch-stretch-requires c).Else-refusal-ne0 (judged (goal.at.used_stretch-stretch-requires c).After-judge-judged)).0 in
-    record {
-      used-fits = used-fits st store u;
-      name-fits = name-fits st store (sizes (goal.at.used_stretch-stretch-requires c).Start) (may (goal.at.used_stretch-stretch-requires c).Else-refusal-ne0 (judged (goal.at.used_stretch-stretch-requires c).After-judge-judged)).0;
-      named = name-ok st store u;
-      labelled = (may (goal.at.used_stretch-stretch-requires c).Else-refusal-ne0 (judged (goal.at.used_stretch-stretch-requires c).After-judge-judged)).1;
-      passed = tells-place st store c.args.label.now _ (judged (goal.at.used_stretch-stretch-requires c).After-judge-judged) (may (goal.at.used_stretch-stretch-requires c).Else-refusal-ne0 (judged (goal.at.used_stretch-stretch-requires c).After-judge-judged)).0 _ c.front_of.ensures;
-    }
+pub slice_bounds-name-end : goal.slice_bounds-name-end
+slice_bounds-name-end c =
+    front-size c.args.state.name.bytes c.args.state.name.len (name-fits c.args.state c.args.store.now (sizes (goal.at.slice_bounds-name-end c).Start) (may (goal.at.slice_bounds-name-end c).Else-ne).0)
+
+pub shared_ref_as_front-name : goal.shared_ref_as_front-name
+shared_ref_as_front-name c =
+    let size = sizes (goal.at.shared_ref_as_front-name c).Start in
+    omega (arith, size.name-size, name-fits c.args.state c.args.store.now size (may (goal.at.shared_ref_as_front-name c).Else-ne).0)
+
+pub slice_bounds-keys-end : goal.slice_bounds-keys-end
+slice_bounds-keys-end c =
+    front-size c.args.store.now c.args.state.used (used-fits c.args.state c.args.store.now (undamaged c.args.state c.args.store.now (may (goal.at.slice_bounds-keys-end c).Else-ne).0))
+
+pub stretch-stretch-requires : goal.stretch-stretch-requires
+stretch-stretch-requires c =
+    let m = may (goal.at.stretch-stretch-requires c).Else-ne in
+    (name-ok c.args.state c.args.store.now (undamaged c.args.state c.args.store.now m.0), m.1, tells-place c.args.state c.args.store.now c.args.label.now _ c.judge-judged.ensures m.0 _ c.unwrap_or.ensures)
 
 pub any_listed-requires : goal.any_listed-requires
-any_listed-requires c = let st = c.args.state in
+any_listed-requires c =
+    let st = c.args.state in
     let store = c.args.store.now in
     let size = sizes (goal.at.any_listed-requires c).Start in
-    let fits = stretch-fits st store c.args.label.now (may (goal.at.any_listed-requires c).Else-refusal-ne0 (judged (goal.at.any_listed-requires c).After-judge-judged)).0 (may (goal.at.any_listed-requires c).Else-refusal-ne0 (judged (goal.at.any_listed-requires c).After-judge-judged)).1 st.name.len c.used_stretch-stretch.result.now (sym (name-size st store size (may (goal.at.any_listed-requires c).Else-refusal-ne0 (judged (goal.at.any_listed-requires c).After-judge-judged)).0)) c.used_stretch-stretch.ensures.bytes in
+    let m = may (goal.at.any_listed-requires c).Else-ne in
+    let part = c.stretch-stretch.ensures in
+    let within = part_of_store c.args.store c.stretch-stretch.result (name_of st) c.args.label.now st.used (used-fits st store (undamaged st store m.0)) part.block part.offset part.bytes in
     record {
-      short-name = name_most_lem st store (may (goal.at.any_listed-requires c).Else-refusal-ne0 (judged (goal.at.any_listed-requires c).After-judge-judged)).0;
-      keys-fit = fits;
-      few = tombstone_most_lem st store (may (goal.at.any_listed-requires c).Else-refusal-ne0 (judged (goal.at.any_listed-requires c).After-judge-judged)).0;
-      ascends = tombstone-ascends st store (may (goal.at.any_listed-requires c).Else-refusal-ne0 (judged (goal.at.any_listed-requires c).After-judge-judged)).0;
+      short-name = name_most_lem st store m.0;
+      keys-fit = stretch-fits st store c.args.label.now m.0 m.1 st.name.len c.stretch-stretch.result.now (sym (name-size st store size m.0)) within.bytes;
+      few = tombstone_most_lem st store m.0;
+      ascends = tombstone-ascends st store m.0;
+      size = size.tombstone-size;
     }
 
 pub returns : goal.returns
-returns c = let st = c.args.state in
+returns c =
+    let st = c.args.state in
+    let store = c.args.store.now in
     let size = sizes (goal.at.returns c).Start in
-    looked st c.args.store c.used_stretch-stretch.result c.args.label.now c.lookup_number-refusal.result c.any_listed.result size (may (goal.at.returns c).Else-refusal-ne0 (judged (goal.at.returns c).After-judge-judged)).0 (may (goal.at.returns c).Else-refusal-ne0 (judged (goal.at.returns c).After-judge-judged)).1 c.if-refusal-ne0.false c.used_stretch-stretch.ensures c.any_listed.ensures
+    let m = may (goal.at.returns c).Else-ne in
+    let part = c.stretch-stretch.ensures in
+    let within = part_of_store c.args.store c.stretch-stretch.result (name_of st) c.args.label.now st.used (used-fits st store (undamaged st store m.0)) part.block part.offset part.bytes in
+    looked st c.args.store c.stretch-stretch.result c.args.label.now c.from.result c.any_listed.result size m.0 m.1 (c.from.ensures ∙ ap number_of (none (goal.at.returns c).Else-ne)) within c.any_listed.ensures

@@ -19,4 +19,4 @@ returns-then-x-y c = search (rules, differs)
 
 pub lower_words-requires : goal.lower_words-requires
 lower_words-requires c = let args = c.args in
-    (search rules, same args.a.now args.b.now c.type_inv.a c.type_inv.b _ _ _ c.smaller-n.ensures c.if-n-lt8.false c.number_at-x.ensures c.number_at-y.ensures c.if-x-y.false)
+    (search rules, same args.a.now args.b.now c.type_inv.a c.type_inv.b _ _ _ c.min-n.ensures c.if-n-lt8.false c.number_at-x.ensures c.number_at-y.ensures c.if-x-y.false)

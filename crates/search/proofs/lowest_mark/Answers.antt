@@ -3,4 +3,4 @@ use Rattle.search.proofs.ZeroBytes.{place_lowest}
 use Rattle.search.proofs.lowest_mark.Goals as goal
 
 pub returns : goal.returns
-returns c = place_lowest _ _ c.wrapping_sub_u64.ensures.value
+returns c = place_lowest _ _ c.wrapping_neg.ensures

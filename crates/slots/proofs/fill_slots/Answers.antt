@@ -1,12 +1,11 @@
 use Rattle.slots.proofs.Filling.{fill_start, fill_turn, fill_end}
-use borrow.Author.Rules.{rules}
 use Rattle.slots.proofs.fill_slots.Goals as goal
 
-pub loop-i-init : goal.loop-i-init
-loop-i-init c = search (rules, fill_start)
+pub loop-dot-init : goal.loop-dot-init
+loop-dot-init c = fill_start _ _ _ c.requires cc
 
-pub loop-i-preserved : goal.loop-i-preserved
-loop-i-preserved c = search (rules, fill_turn)
+pub loop-dot-preserved : goal.loop-dot-preserved
+loop-dot-preserved c = fill_turn _ _ _ c.loop-dot.invariant _ _ _ c.in-Some.ensures.steps c.slot_of.ensures.0
 
 pub returns : goal.returns
-returns c = search (rules, fill_end)
+returns c = fill_end _ _ _ c.loop-dot.invariant c.in-None.ensures.steps.0

@@ -1,10 +1,7 @@
 -- The invariant: each dot has its slot set, or is left.
-use Prim.Native.Nat.{◌-◌, ◌≤◌}
+use Rattle.dots.specs.Wire.{dots_of}
 use Rattle.slots.proofs.Filling.{Filled}
 use Rattle.slots.proofs.fill_slots.Given as goal
 
-abbrev pub invariant-loop-i : goal.invariant-loop-i
-invariant-loop-i l = (l.i ≤ l.n) × Filled l.dots l.slots l.i
-
-abbrev pub decreases-loop-i : goal.decreases-loop-i
-decreases-loop-i l = l.n - l.i
+abbrev pub invariant-loop-dot : goal.invariant-loop-dot
+invariant-loop-dot l = Filled (dots_of l.dots) (dots_of l.dot-iterator.bytes.now) l.slots

@@ -1,14 +1,12 @@
-use native.Mathlib.Omega.{arith}
+use Rattle.std.proofs.Common.{rules, tests}
+use mathlib.Core.Path.{◌∙◌}
+use Rattle.std.proofs.lemmas.Iterator.Search.{any_from_yields_List}
+use Rattle.dots.specs.Wire.{dots_of}
+use Rattle.dots.proofs.Iterating.{YieldsList-from_dots, list_any-is}
 use Rattle.steps.specs.Tests.{ahead_of}
-use Rattle.steps.proofs.DotLoops.{any-start, any-turn, any-end}
 use Rattle.steps.proofs.own_ahead.Goals as goal
 
-pub loop-i-init : goal.loop-i-init
-loop-i-init c = let a = c.args in (omega arith, any-start (ahead_of a.own a.base) a.offered.now)
-
-pub loop-i-preserved : goal.loop-i-preserved
-loop-i-preserved c = let a = c.args in
-    (omega arith, any-turn (ahead_of a.own a.base) a.offered.now c.loop-i.i _ c.loop-i.found c.loop-i.invariant.1 _ _ c.loop-i-test.true c.dot_at-dot.ensures c.dot_ahead-found.ensures)
-
 pub returns : goal.returns
-returns c = let a = c.args in any-end (ahead_of a.own a.base) a.offered.now c.loop-i.i _ c.loop-i.found c.loop-i.invariant.1 c.loop-i-test.false
+returns c =
+    any_from_yields_List (ahead_of c.args.own c.args.base) c.any.new.self _ _ c.any.ensures.ran (YieldsList-from_dots {s = c.dots_in.result} (dots_of c.args.offered.now) cc) (λ x b q k. search (rules, tests))
+    ∙ list_any-is (ahead_of c.args.own c.args.base) (dots_of c.args.offered.now)

@@ -15,10 +15,8 @@ use Rattle.dots.proofs.Loops.{length-dots_at, length-dots_of}
 use Rattle.contexts.proofs.Places.{dots-front}
 use Rattle.clock.specs.Clock.{sees}
 use Rattle.steps.specs.Tests.{joins_tombstone, Tombstoned, ContextFits}
-use Rattle.judging.proofs.Parts.{front-size}
 use Rattle.steps.proofs.Joining.{tombstone_grows, keep-few}
 use borrow.Author.Tests.{le-ltb}
-use borrow.Author.Rules.{rules}
 use Rattle.steps.proofs.tombstone_full.Goals as goal
 
 module _ (words bytes context : List ℕ) (count : ℕ) (t : Tombstoned bytes count) (f : ContextFits context) where
@@ -42,10 +40,7 @@ module _ (words bytes context : List ℕ) (count : ℕ) (t : Tombstoned bytes co
   full k e = rw (e, grown)
 
 pub returns-then-count-context-le-TOMBSTONE_MOST : goal.returns-then-count-context-le-TOMBSTONE_MOST
-returns-then-count-context-le-TOMBSTONE_MOST c = search (rules, not_full)
-
-pub slice_bounds-tombstone_growth-end : goal.slice_bounds-tombstone_growth-end
-slice_bounds-tombstone_growth-end c = let size = c.requires.0.size in let few = c.requires.0.few in front-size c.args.bytes.now (c.args.count * dot_size) (omega arith)
+returns-then-count-context-le-TOMBSTONE_MOST c = not_full c.args.state.now.clock.words c.args.state.now.tombstone.bytes c.args.context.now c.args.state.now.tombstone.count c.requires.0 c.requires.1 c.if-count-context-le-TOMBSTONE_MOST.true
 
 pub returns : goal.returns
-returns c = search (rules, full)
+returns c = full c.args.state.now.clock.words c.args.state.now.tombstone.bytes c.args.context.now c.args.state.now.tombstone.count c.requires.0 c.requires.1 _ c.tombstone_growth.ensures.0

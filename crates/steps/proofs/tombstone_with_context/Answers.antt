@@ -1,38 +1,24 @@
-use mathlib.Core.Path.{sym, ap, ◌∙◌}
-use mathlib.Core.Bool.{cond}
-use mathlib.Core.List.{List}
-use Prim.Native.Nat.{◌+◌, ◌*◌}
-use native.Mathlib.Omega.{arith}
-use lib.ListN.{take}
-use Rattle.wire.specs.Lists.{keep, insert, insert_all}
-use Rattle.dots.specs.declared.Dot.{Dot}
-use Rattle.dots.specs.Dots.{compare_dots}
-use Rattle.dots.specs.Wire.{dots_of, dot_size}
-use Rattle.dots.proofs.Loops.{left, dots-start, dots-none}
-use Rattle.clock.specs.Clock.{sees}
-use Rattle.steps.proofs.TombstoneBytes.{tombstone-next, tombstone-room, context-dot}
+use mathlib.Core.Path.{ap, ◌∙◌}
+use Rattle.dots.proofs.Rules.{ascending-valid}
+use Rattle.dots.specs.Wire.{dots_of}
+use Rattle.steps.specs.Tests.{with_seen}
+use Rattle.steps.proofs.TombstoneBytes.{tombstone-next, tombstone-room, first-valid, rest-valid, tombstone-end}
 use Rattle.steps.proofs.tombstone_with_context.Goals as goal
 
-pub loop-i-init : goal.loop-i-init
-loop-i-init c = let a = c.args in
-    (omega arith, (c.requires.0, ap (λ (ds : List Dot). insert_all compare_dots (keep (sees a.words.now) ds) (dots_of (take (a.count * dot_size) a.bytes.now))) (dots-start a.context.now)))
+pub loop-dot-init : goal.loop-dot-init
+loop-dot-init c = let valid = ascending-valid (dots_of c.args.context.now) c.requires.1.ascends in record { held = c.requires.0; rest = cc; valid = cc }
 
-pub tombstone_with_dot-held-requires : goal.tombstone_with_dot-held-requires
-tombstone_with_dot-held-requires c = let a = c.args in
-    let ds = dots_of (take (c.loop-i.held * dot_size) c.loop-i.bytes) in
-    let h = c.loop-i-test.true in
-    rw c.dot_at-dot.ensures
-    (c.loop-i.invariant.1.0, context-dot a.context.now c.loop-i.i c.requires.1 h, tombstone-room a.words.now a.context.now c.loop-i.i ds _ c.requires.1 h c.loop-i.invariant.1.1 c.requires.2)
+pub tombstone_with_dot-requires : goal.tombstone_with_dot-requires
+tombstone_with_dot-requires c = let i = c.loop-dot.invariant in
+    (i.held, first-valid _ _ _ c.in-Some.ensures.steps i.valid, tombstone-room _ _ _ _ _ _ c.in-Some.ensures.steps i.rest c.requires.2)
 
-pub loop-i-preserved : goal.loop-i-preserved
-loop-i-preserved c = let a = c.args in
-    let ds = dots_of (take (c.loop-i.held * dot_size) c.loop-i.bytes) in
-    let next = tombstone-next a.words.now a.context.now c.loop-i.i ds _ c.requires.1 c.loop-i-test.true c.loop-i.invariant.1.1 c.requires.2 in
-    let same = c.tombstone_with_dot-held.ensures.1 ∙ ap (λ (d : Dot). cond (sees a.words.now d) (insert compare_dots d ds) ds) c.dot_at-dot.ensures in
-    (omega arith, (c.tombstone_with_dot-held.ensures.0, ap (insert_all compare_dots (keep (sees a.words.now) (left a.context.now (c.loop-i.i + 1)))) same ∙ next))
+pub loop-dot-preserved : goal.loop-dot-preserved
+loop-dot-preserved c = let i = c.loop-dot.invariant in
+    record {
+      held = c.tombstone_with_dot.ensures.0;
+      rest = ap (with_seen c.args.words.now _) c.tombstone_with_dot.ensures.1 ∙ tombstone-next _ _ _ _ _ _ c.in-Some.ensures.steps i.rest;
+      valid = rest-valid _ _ _ c.in-Some.ensures.steps i.valid;
+    }
 
 pub returns : goal.returns
-unfolding keep insert_all
-returns c = let a = c.args in
-    let ds = dots_of (take (c.loop-i.held * dot_size) c.loop-i.bytes) in
-    (c.loop-i.invariant.1.0, sym (ap (λ (l : List Dot). insert_all compare_dots (keep (sees a.words.now) l) ds) (dots-none a.context.now c.loop-i.i c.loop-i-test.false)) ∙ c.loop-i.invariant.1.1)
+returns c = let i = c.loop-dot.invariant in (i.held, tombstone-end _ _ _ _ c.in-None.ensures.steps.0 i.rest)

@@ -1,17 +1,15 @@
--- The invariant: inserting the dots that are left gives what inserting all gives at the start.
+-- The invariant: inserting the dots that are left gives what inserting all gives at the start, and they keep their rule.
 use mathlib.Core.Path.{◌≡◌}
-use Prim.Native.Nat.{◌-◌, ◌*◌, ◌≤◌}
-use lib.ListN.{take}
-use Rattle.wire.specs.Lists.{keep, insert_all}
-use Rattle.dots.specs.Dots.{compare_dots}
-use Rattle.dots.specs.Wire.{dots_of, dot_size}
-use Rattle.dots.proofs.Loops.{left}
-use Rattle.clock.specs.Clock.{sees}
-use Rattle.steps.specs.Tests.{Padded}
+use mathlib.Core.Bool.{true}
+use Rattle.wire.specs.Lists.{all}
+use Rattle.dots.specs.Dots.{dot_ok}
+use Rattle.dots.specs.Wire.{dots_of}
+use Rattle.steps.specs.Tests.{Padded, held_dots, with_seen}
 use Rattle.steps.proofs.tombstone_with_context.Given as goal
 
-abbrev pub invariant-loop-i : goal.invariant-loop-i
-invariant-loop-i l = (l.i ≤ l.n) × (Padded l.bytes l.held × (insert_all compare_dots (keep (sees l.words) (left l.context l.i)) (dots_of (take (l.held * dot_size) l.bytes)) ≡ insert_all compare_dots (keep (sees l.words) (dots_of l.context)) (dots_of (take (l.initial.held * dot_size) l.initial.bytes))))
-
-abbrev pub decreases-loop-i : goal.decreases-loop-i
-decreases-loop-i l = l.n - l.i
+abbrev pub invariant-loop-dot : goal.invariant-loop-dot
+invariant-loop-dot l = record {
+  held : Padded l.tombstone.bytes l.tombstone.count;
+  rest : with_seen l.words (dots_of l.dot-iterator.bytes.now) (held_dots l.tombstone.bytes l.tombstone.count) ≡ with_seen l.words (dots_of l.context) (held_dots l.initial.tombstone.bytes l.initial.tombstone.count);
+  valid : all dot_ok (dots_of l.dot-iterator.bytes.now) ≡ true;
+}

@@ -1,13 +1,11 @@
 -- The lengths, and then the pass over the used bytes, with the prefix as it was put.
-use Rattle.std.proofs.Common.{◌≡◌, ℕ, ◌+◌, ◌<◌, ◌≤◌, true, false, List, ◌++◌, length, take, sym, ap, ◌∙◌, arith, length-take, length-take-le, rules, le-leb}
+use Rattle.std.proofs.Common.{◌≡◌, ℕ, ◌+◌, ◌<◌, ◌≤◌, true, false, Option, Some, List, ◌++◌, length, take, sym, ap, ◌∙◌, arith, length-take, length-take-le, rules, le-leb}
 use borrow.Author.Tests.{lt-leb}
 use Rattle.wire.specs.Bytes.{Bytes}
 use Rattle.dots.specs.Names.{Name, name_ok, name_most}
 use Rattle.keys.proofs.EntryKeys.{length-prefix}
 use Rattle.wire.specs.Lists.{all, ascends}
 use Rattle.store.specs.Cut.{keys_after}
-use Rattle.store.specs.declared.Judgement.{Judgement}
-use Rattle.store.specs.declared.Judgement.TheVariants.{Sound}
 use Rattle.store.specs.Place.{Judged, KeysJudged, StoreJudged}
 use Rattle.store.specs.Pass.{name_in, IsStart}
 use Rattle.store.proofs.Prefixes.{name_in_lem}
@@ -32,11 +30,11 @@ module _ (name : Name) (words : List ℕ) (store : Bytes) (used : ℕ) where
     unfolding store_ok
     by-keys h = rw (le-leb (length store) store_most most, le-leb used (length store) h)
 
-    judged : (n : ℕ) (start : Bytes) (r : Judgement) → used ≤ length store → Judged (used_ok name words (take used store)) n start (take used store) r → Judged (store_ok name words store used) n start (take used store) r
+    judged : (n : ℕ) (start : Bytes) (r : Option ℕ) → used ≤ length store → Judged (used_ok name words (take used store)) n start (take used store) r → Judged (store_ok name words store used) n start (take used store) r
     judged n start r h j = rw (← by-keys h) j
 
     -- no keys at all
-    none : (n : ℕ) (start : Bytes) → used ≡ 0 → Judged (store_ok name words store used) n start (take used store) (Sound 0)
+    none : (n : ℕ) (start : Bytes) → used ≡ 0 → Judged (store_ok name words store used) n start (take used store) (Some 0)
     unfolding used_ok keys_after all ascends
     none n start e =
         let ok : true ≡ used_ok name words (take used store) = rw e in
@@ -50,7 +48,7 @@ module _ (name : Name) (ok : name_ok name ≡ true) (start : Bytes) (put : start
   is-start : IsStart start
   is-start = (rw named ok, rw named put)
 
-  store-judged : (words : List ℕ) (store label : Bytes) (used : ℕ) (r : Judgement) → length store ≤ store_most → used ≤ length store
+  store-judged : (words : List ℕ) (store label : Bytes) (used : ℕ) (r : Option ℕ) → length store ≤ store_most → used ≤ length store
       → KeysJudged (name_in start) words (take used store) label r → StoreJudged name words store used label r
   store-judged words store label used r most h j = judged name words store used most (length name) (prefix name ++ label) r h (rw named at j)
 

@@ -14,4 +14,4 @@ spanned keys start n at len place run =
     (place.0, r.0, omega (arith, length-drop at keys))
 
 pub returns : goal.returns
-returns c = search (rules, spanned)
+returns c = spanned _ _ _ _ _ c.place-at.ensures (c.walk_past-len.ensures.walked (starts_with c.args.start.now) (λ k r e. search rules), c.walk_past-len.ensures.within)

@@ -1,9 +1,8 @@
--- The bytes of the word are the number's: `number_of_word`.
-use Prim.Native.Nat.{ℕ}
-use mathlib.Core.Path.{ap, ◌∙◌}
-use Rattle.wire.specs.Bytes.{from_big_endian, little_endian}
-use Rattle.wire.proofs.LittleEndian.{number_of_word}
+-- The bytes of the part, read as std reads them.
+use Rattle.std.proofs.Common.{rules}
+use mir.Syntax.{w64}
+use Rattle.wire.proofs.StdNumbers.{high_read}
 use Rattle.wire.proofs.number_at.Goals as goal
 
 pub returns : goal.returns
-returns c = c.swapped.ensures ∙ ap (λ (w : ℕ). from_big_endian (little_endian 8 w)) c.low_at.ensures ∙ number_of_word _ (λ i. (c.type_inv.s i).fits) 8 _ c.requires
+returns c = search (rules, high_read w64)

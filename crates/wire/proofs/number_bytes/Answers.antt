@@ -1,8 +1,8 @@
--- Each byte is what is left by the higher ones, divided.
-use native.Mathlib.Nat.{div-one}
-use Rattle.wire.specs.Bytes.{big_endian}
+-- The bytes that std writes.
+use Rattle.std.proofs.Common.{rules}
+use mir.Syntax.{w64}
+use Rattle.wire.proofs.StdNumbers.{to_be}
 use Rattle.wire.proofs.number_bytes.Goals as goal
 
 pub returns : goal.returns
-unfolding big_endian
-returns c = rw div-one
+returns c = search (rules, to_be w64)

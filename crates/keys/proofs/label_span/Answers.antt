@@ -1,8 +1,0 @@
--- Each return rewrites with the test.
-use Rattle.keys.proofs.label_span.Goals as goal
-
-pub returns-then-has : goal.returns-then-has
-returns-then-has c = rw c.if-has.true
-
-pub returns : goal.returns
-returns c = rw c.if-has.false

@@ -1,9 +1,0 @@
--- By the test.
-use native.Mathlib.Omega.{arith}
-use Rattle.merge.proofs.add_if.Goals as goal
-
-pub returns-then-test : goal.returns-then-test
-returns-then-test c = rw c.if-test.true
-
-pub returns-else-test : goal.returns-else-test
-returns-else-test c = rw c.if-test.false (omega arith)
