@@ -2,21 +2,21 @@
 
 #![tactic(auto)]
 
-// A set name: its first len bytes; the others are 0.
+// A set name: its first len bytes; the others are 0. Fixed memory, no heap; the block of C holds the same two fields (`name_in` in block/specs/Block).
 #[derive(Clone, Copy)]
 pub struct SetName {
     pub bytes: [u8; dots::NAME_MOST],
     pub len: usize,
 }
 
-// The tombstone: its first count dots, nine bytes each; the other bytes are 0.
+// The tombstone: its first count dots, nine bytes each; the other bytes are 0. Fixed memory, no heap; the block of C holds the same (`tombstone_in` there).
 #[derive(Clone, Copy)]
 pub struct Tombstone {
     pub bytes: [u8; dots::TOMBSTONE_SIZE],
     pub count: usize,
 }
 
-// What a controller holds, but for the store, which is lent to each call.
+// What a controller holds, but for the store. C lends the store to each call, and the state keeps how much of it is used.
 #[derive(Clone, Copy)]
 pub struct State {
     pub name: SetName,
@@ -31,7 +31,7 @@ pub struct State {
 // Records of an answer and values, and no `Result`s: what they say of a refusal too (state, counts) is promised by `Leaves`, `Lists`
 // and `PagesAfter` (specs/Promise), and demand 3 (specs/Demand3) speaks of these records.
 
-// What set-up gives.
+// What set-up gives; a record for `set_up` (specs/Calls) and `LoadsImage` (image/specs/Promise), which say the state after a refusal too.
 #[derive(Clone, Copy)]
 pub struct SetUp {
     pub answer: dots::Answer,

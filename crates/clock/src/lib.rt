@@ -264,7 +264,7 @@ fn reach_dots(words: &Words, from: Reach, offered: &[u8]) -> Option<Reach>
     Some(x)
 }
 
-// No dot so far.
+// No dot so far: actor 0 and not an Option, since the definition `reach_start` (specs/Reach) has it so.
 fn reach_start() -> Reach
     ensures { reach_of result ≡ reach_start }
 {

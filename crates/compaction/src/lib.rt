@@ -73,6 +73,7 @@ fn drop_keys(n: usize, keys: &mut [u8], dead: slots::SlottedDots) -> usize
 }
 
 // Drops the keys whose dots are the first `count` of the tombstone. Returns how many bytes of keys are left; those freed at the end become 0.
+// The count stays beside the tombstone: `Drops (is_among tombstone count)` says it by the count.
 pub fn compact(n: usize, keys: &mut [u8], tombstone: &[u8], count: usize) -> usize
     requires { CanCompact n keys.old tombstone.now count }
     ensures { Drops (is_among tombstone.now count) n result keys.old keys.new }

@@ -1,4 +1,4 @@
-// Keys and messages, written and read without a controller.
+// Keys and messages, written and read without a controller. Kinds and answers are numbers, since the C interface takes and gives them so.
 use crate::commands;
 use dots::{Actor, Counter, Dot};
 use lines::parse::Format;

@@ -47,22 +47,29 @@ pub fn place_of(dots: &[u8], dot: dots::Dot) -> usize
 
 // ---- ascending dots
 
-// How many of the ascending dots come before the dot, found by halving.
-pub fn search_dot(dots: &[u8], dot: dots::Dot) -> usize
-    requires { ascending_dots (dots_of dots.now) ≡ true }
-    ensures { (result ≡ place_of dot (dots_of dots.now)) × (result * dot_size ≤ length dots.now) }
-{
-    let (all, _) = dots.as_chunks::<{ dots::DOT_SIZE }>();
-    all.partition_point(|bytes| dots::dot_at(bytes, 0) < dot)
+// Dots, nine bytes each, that keep their rules, each above the one before it.
+#[derive(Clone, Copy)]
+pub struct AscendingDots<'a> {
+    pub dots: &'a [u8],
+    pub ghost ascending: { ascending_dots (dots_of dots.now) ≡ true },
 }
 
-// Whether the dot is one of the ascending dots.
-pub fn holds_dot(dots: &[u8], dot: dots::Dot) -> bool
-    requires { ascending_dots (dots_of dots.now) ≡ true }
-    ensures { result ≡ member compare_dots dot (dots_of dots.now) }
-{
-    let at = search_dot(dots, dot) * dots::DOT_SIZE;
-    Some(dot) == dots::dots_in(&dots[at..]).next()
+impl<'a> AscendingDots<'a> {
+    // How many of the dots come before the dot, found by halving.
+    pub fn place(self, dot: dots::Dot) -> usize
+        ensures { (result ≡ place_of dot (dots_of self.entry.dots.now)) × (result * dot_size ≤ length self.entry.dots.now) }
+    {
+        let (all, _) = self.dots.as_chunks::<{ dots::DOT_SIZE }>();
+        all.partition_point(|bytes| dots::dot_at(bytes, 0) < dot)
+    }
+
+    // Whether the dot is one of the dots.
+    pub fn holds(self, dot: dots::Dot) -> bool
+        ensures { result ≡ member compare_dots dot (dots_of self.entry.dots.now) }
+    {
+        let at = self.place(dot) * dots::DOT_SIZE;
+        Some(dot) == dots::dots_in(&self.dots[at..]).next()
+    }
 }
 
 // Puts the dot in its place among the first `count`, which ascend, once. Returns how many there are then.
@@ -71,10 +78,13 @@ pub fn insert_dot(bytes: &mut [u8; dots::TOMBSTONE_SIZE], count: usize, dot: dot
     ensures { Inserted bytes.old bytes.new count dot result }
 {
     let used = count * dots::DOT_SIZE;
-    if holds_dot(&bytes[..used], dot) {
+    let held = AscendingDots {
+        dots: &bytes[..used],
+    };
+    if held.holds(dot) {
         return count;
     }
-    let at = search_dot(&bytes[..used], dot) * dots::DOT_SIZE;
+    let at = held.place(dot) * dots::DOT_SIZE;
     let piece = dots::dot_bytes(dot);
     moves::insert_piece(bytes, used, at, &piece);
     count + 1

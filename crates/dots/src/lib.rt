@@ -148,7 +148,7 @@ pub fn dot_ok(dot: Dot) -> bool
 
 // ---- dots in bytes, nine each
 
-// The dot in the 9 bytes from a place on. A function and no `From`: the bytes are longer than a dot.
+// The dot in the 9 bytes from a place on. A function and no `From`: messages reads a dot at a place in longer bytes.
 pub fn dot_at(s: &[u8], at: usize) -> Dot
     requires { at + dot_size ≤ length s.now }
     ensures { result ≡ dot_at s.now at }
@@ -162,6 +162,7 @@ pub fn dot_at(s: &[u8], at: usize) -> Dot
 }
 
 // A dot in 9 bytes, written out: `copy_from_slice` would call memmove, which the library may not.
+// A function and no `From`: the callers borrow the bytes, so `into` would need their type written out.
 pub fn dot_bytes(dot: Dot) -> [u8; DOT_SIZE]
     ensures { result ≡ dot_bytes dot }
 {

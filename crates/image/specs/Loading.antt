@@ -30,8 +30,7 @@ pub record Named (s : Bytes) (l : ImageLayout) : Type 0 where
   pub short-name : l.name.len ≤ name_most
 
 -- what loading counts on where it is not refused, for a store of so many bytes
-pub record Loadable (s : Bytes) (l : ImageLayout) (room : ℕ) : Type 0 where
-  pub named : Named s l
+pub record Loadable (l : ImageLayout) (room : ℕ) : Type 0 where
   pub few : l.count ≤ tombstone_most
   pub fits : l.keys.len ≤ room
 

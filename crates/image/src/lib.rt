@@ -16,8 +16,13 @@ ghost use Rattle.calls.specs.ImageRead.{four_at, version_ok, layout_of, shape_ok
 ghost use Rattle.calls.specs.HandOff.{image_result, load_refusals, loaded_at, load_result};
 ghost use Rattle.image.specs.Sizes.{window_size, rows_size, actor_fixed, image_size};
 ghost use Rattle.image.specs.Writing.{FrontPut, KeysPut, RestFits, RestPut, image_of, PartsFit, PutsImage, Writable};
-ghost use Rattle.image.specs.Loading.{Small, Named, Loadable, late_refusals, checked_refusals};
+ghost use Rattle.steps.specs.Tests.{passed};
+ghost use Rattle.image.specs.Loading.{Small, Loadable, late_refusals, checked_refusals};
 ghost use Rattle.image.specs.Promise.{WritesImage, LoadsImage};
+
+mod places;
+
+use places::{Image, ImageFields};
 
 // ---- sizes
 
@@ -220,7 +225,7 @@ fn words_in(s: &[u8], at: usize) -> clock::Words
 }
 
 // The bytes of a stretch.
-fn bytes_in<'a>(s: &'a [u8], field: wire::Span) -> &'a [u8]
+fn bytes_in(s: &[u8], field: wire::Span) -> &[u8]
     requires { end_of field ≤ length s.now }
     ensures { result.now ≡ part_of s.now field }
 {
@@ -228,21 +233,22 @@ fn bytes_in<'a>(s: &'a [u8], field: wire::Span) -> &'a [u8]
 }
 
 // The state of the fields, under an actor.
-fn state_in(actor: u8, s: &[u8], l: calls::ImageLayout) -> calls::State
-    requires { Named s.now l × (l.count ≤ tombstone_most) }
-    ensures { result ≡ state_at actor s.now l }
+fn state_in(actor: u8, image: ImageFields) -> calls::State
+    requires { image.places.count ≤ tombstone_most }
+    ensures { result ≡ state_at actor image.entry.bytes.now image.entry.places }
 {
+    let l = image.places;
     calls::State {
         actor: dots::Actor { number: actor },
         name: calls::SetName {
-            bytes: controller::padded(bytes_in(s, l.name)),
+            bytes: controller::padded(bytes_in(image.bytes, l.name)),
             len: l.name.len,
         },
         clock: clock::Clock {
-            words: words_in(s, l.rows),
+            words: words_in(image.bytes, l.rows),
         },
         tombstone: calls::Tombstone {
-            bytes: controller::padded(bytes_in(s, l.dots)),
+            bytes: controller::padded(bytes_in(image.bytes, l.dots)),
             count: l.count,
         },
         used: l.keys.len,
@@ -259,12 +265,12 @@ fn version_ok(s: &[u8]) -> bool
 }
 
 // Whether the kind is right, and the keys and four bytes more end where the bytes do.
-fn shape_ok(s: &[u8], l: calls::ImageLayout) -> bool
-    requires { Small l }
-    ensures { result ≡ shape_ok s.now l }
+fn shape_ok(image: Image) -> bool
+    ensures { result ≡ shape_ok image.entry.bytes.now image.entry.places }
 {
-    let kind = wire::byte_at(s, 5);
-    (kind == IMAGE_KIND) & (l.keys.at + l.keys.len + CRC_SIZE == s.len())
+    let kind = wire::byte_at(image.bytes, 5);
+    let keys = image.places.keys;
+    (kind == IMAGE_KIND) & (keys.at + keys.len + CRC_SIZE == image.bytes.len())
 }
 
 // Whether the last four bytes are the CRC of those before them.
@@ -287,84 +293,77 @@ fn actor_free(actor: u8, writer: u8, words: &clock::Words) -> bool
 }
 
 // Whether set name and writer's actor keep their rules.
-fn writer_ok(s: &[u8], l: calls::ImageLayout) -> bool
-    requires { Small l }
-    ensures { result ≡ writer_ok s.now l }
+fn writer_ok(image: Image) -> bool
+    ensures { result ≡ writer_ok image.entry.bytes.now image.entry.places }
 {
-    let named = dots::name_ok(wire::part(s, l.name.at, l.name.len));
-    let writer = wire::byte_at(s, l.actor);
+    let name = image.places.name;
+    let named = dots::name_ok(wire::part(image.bytes, name.at, name.len));
+    let writer = wire::byte_at(image.bytes, image.places.actor);
     named & ((1 <= writer) & (writer <= dots::ACTOR_MOST))
 }
 
 // Whether the contents are a damaged state under the writer's actor. The keys are judged where they stand.
-fn contents_damaged(s: &[u8], l: calls::ImageLayout) -> bool
-    requires { Named s.now l }
-    ensures { result ≡ is_damaged (written_at s.now l) (part_of s.now l.keys) }
+fn contents_damaged(image: ImageFields) -> bool
+    ensures { result ≡ is_damaged (written_at image.entry.bytes.now image.entry.places) (part_of image.entry.bytes.now image.entry.places.keys) }
 {
+    let l = image.places;
     if dots::TOMBSTONE_MOST < l.count {
         return true;
     }
-    let state = state_in(wire::byte_at(s, l.actor), s, l);
-    judging::damaged(&state, bytes_in(s, l.keys))
+    let state = state_in(wire::byte_at(image.bytes, l.actor), image);
+    judging::damaged(&state, bytes_in(image.bytes, l.keys))
 }
 
 // Refusals 6 and 12, for a store of so many bytes.
-fn late_answer(room: usize, s: &[u8], l: calls::ImageLayout) -> dots::Answer
-    requires { Named s.now l }
-    ensures { result ≡ first_of (late_refusals room s.now l) }
+fn late_answer(room: usize, image: ImageFields) -> Result<(), dots::Answer>
+    ensures { result ≡ passed (first_of (late_refusals room image.entry.bytes.now image.entry.places)) }
 {
-    dots::first_of(&[
-        (contents_damaged(s, l), dots::Answer::BadDot),
-        (room < l.keys.len, dots::Answer::StoreFull),
+    steps::refused(&[
+        (contents_damaged(image), dots::Answer::BadDot),
+        (room < image.places.keys.len, dots::Answer::StoreFull),
     ])
 }
 
 // Refusals 14, 15 and 5, then those of the contents.
-fn checked_answer(actor: u8, room: usize, s: &[u8], l: calls::ImageLayout) -> dots::Answer
-    requires { Small l × Within s.now l }
-    ensures { result ≡ first_of (checked_refusals actor room s.now l) }
+fn checked_answer(actor: u8, room: usize, image: Image) -> Result<(), dots::Answer>
+    requires { Within image.bytes.now image.places }
+    ensures { result ≡ passed (first_of (checked_refusals actor room image.entry.bytes.now image.entry.places)) }
 {
-    let words = words_in(s, l.rows);
-    let free = actor_free(actor, wire::byte_at(s, l.actor), &words);
-    let answer = dots::first_of(&[
-        (!crc_ok(s), dots::Answer::BadChecksum),
+    let Image { bytes, places, .. } = image;
+    let words = words_in(bytes, places.rows);
+    let free = actor_free(actor, wire::byte_at(bytes, places.actor), &words);
+    steps::refused(&[
+        (!crc_ok(bytes), dots::Answer::BadChecksum),
         (!free, dots::Answer::ActorTaken),
-        (!writer_ok(s, l), dots::Answer::BadName),
-    ]);
-    if answer != dots::Answer::Done {
-        return answer;
-    }
-    late_answer(room, s, l)
+        (!writer_ok(image), dots::Answer::BadName),
+    ])?;
+    late_answer(room, ImageFields { bytes, places })
 }
 
 // Refusals 1 to 4, then those of an image that has its shape.
-fn load_answer(actor: u8, s: &[u8], l: calls::ImageLayout, store: &[u8]) -> dots::Answer
-    requires { (l ≡ layout_of s.now) × Small l }
-    ensures { result ≡ first_of (load_refusals actor s.now store.now) }
+fn load_answer(actor: u8, image: Image, store: &[u8]) -> Result<(), dots::Answer>
+    ensures { result ≡ passed (first_of (load_refusals actor image.entry.bytes.now store.now)) }
 {
-    let answer = dots::first_of(&[
+    steps::refused(&[
         (store::STORE_MOST < store.len(), dots::Answer::Damaged),
-        (!messages::mark_ok(s), dots::Answer::NoMark),
-        (!version_ok(s), dots::Answer::BadVersion),
-        (!shape_ok(s, l), dots::Answer::BadShape),
-    ]);
-    if answer != dots::Answer::Done {
-        return answer;
-    }
-    checked_answer(actor, store.len(), s, l)
+        (!messages::mark_ok(image.bytes), dots::Answer::NoMark),
+        (!version_ok(image.bytes), dots::Answer::BadVersion),
+        (!shape_ok(image), dots::Answer::BadShape),
+    ])?;
+    checked_answer(actor, store.len(), image)
 }
 
 // ---- loading
 
 // Loads an image that is not refused.
-fn load_done(actor: u8, s: &[u8], l: calls::ImageLayout, store: &mut [u8]) -> calls::SetUp
-    requires { Loadable s.now l (length store.old) }
-    ensures { LoadsImage (loaded_at actor s.now store.old l) store.new result }
+fn load_done(actor: u8, image: ImageFields, store: &mut [u8]) -> calls::SetUp
+    requires { Loadable image.places (length store.old) }
+    ensures { LoadsImage (loaded_at actor image.entry.bytes.now store.old image.entry.places) store.new result }
 {
-    moves::put(store, 0, bytes_in(s, l.keys));
+    moves::put(store, 0, bytes_in(image.bytes, image.places.keys));
     calls::SetUp {
         answer: dots::Answer::Done,
-        state: state_in(actor, s, l),
+        state: state_in(actor, image),
     }
 }
 
@@ -372,13 +371,23 @@ fn load_done(actor: u8, s: &[u8], l: calls::ImageLayout, store: &mut [u8]) -> ca
 pub fn load(actor: u8, image: &[u8], store: &mut [u8]) -> calls::SetUp
     ensures { LoadsImage (load_result actor image.now store.old) store.new result }
 {
-    let l = layout_of(image);
-    let answer = load_answer(actor, image, l, store);
-    if answer != dots::Answer::Done {
+    let places = layout_of(image);
+    let given = Image {
+        bytes: image,
+        places,
+    };
+    if let Err(answer) = load_answer(actor, given, store) {
         return calls::SetUp {
             answer,
             state: controller::fresh_state(0, &image[0..0]),
         };
     }
-    load_done(actor, image, l, store)
+    load_done(
+        actor,
+        ImageFields {
+            bytes: image,
+            places,
+        },
+        store,
+    )
 }

@@ -38,12 +38,13 @@ fn taken_late(
     let base = steps::own_base(state);
     let ahead = steps::own_ahead(own, base, context);
     let given = wire::part(message, read.name.at, read.name.len);
-    let other = steps::other_set(&state.name, given);
+    let other = steps::other_set(&state.name.bytes[..state.name.len], given);
     match read.kind {
         messages::MessageKind::Add => {
             let label = wire::part(message, read.label.at, read.label.len);
             taken_early(other, steps::dot_ahead(own, base, read.dot) | ahead)?;
-            steps::add_late(state, size, label, context, read.dot, false)
+            let crowded = steps::crowded(state, size, label);
+            steps::add_late(state, context, read.dot, crowded, false)
         }
         messages::MessageKind::Remove => {
             taken_early(other, ahead)?;
@@ -81,7 +82,7 @@ fn label_of<'a>(message: &'a [u8], read: Result<messages::MessageFields, dots::A
     }
 }
 
-// Applies an add. The keys of its label do not stand in the first `low` bytes.
+// Applies an add. The keys of its label do not stand in the first `low` bytes. `own::add_done` ends alike; the reason stands there.
 fn take_add(
     state: calls::State,
     store: &mut [u8],
@@ -109,7 +110,7 @@ fn take_add(
     }
 }
 
-// Applies a context.
+// Applies a context. `own::remove_done` ends alike; the reason stands at `own::add_done`.
 fn take_remove(state: calls::State, context: &[u8]) -> calls::Outcome
     requires { MayRemove state context.now }
     ensures { result ≡ done_with (removed_state state (dots_of context.now)) }

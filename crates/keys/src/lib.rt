@@ -3,7 +3,7 @@
 #![tactic(auto)]
 
 ghost use Rattle.std.specs.Prelude.{◌≡◌, true, cond, [], ◌+◌, ◌≤◌, length, drop, Ok};
-ghost use Rattle.wire.specs.Bytes.{byte_at, number_at, span, put_at};
+ghost use Rattle.wire.specs.Bytes.{AreBytes, byte_at, number_at, span, put_at};
 ghost use Rattle.keys.specs.declared.KeyKind.TheVariants.{ClockKey, LabelKey, EndKey};
 ghost use Rattle.keys.specs.Key.{type_byte, has_label, has_actor, names_ok, key_counter_ok, key_bytes, suffix_size, prefix_fixed};
 ghost use Rattle.keys.specs.Read.{name_length, is_key, found_key, read_key, read_as};
@@ -11,7 +11,7 @@ ghost use Rattle.keys.specs.Write.{key_in, KeyPut, WroteKey, write_answer};
 ghost use Rattle.dots.specs.Answer.{Answered};
 ghost use Rattle.dots.specs.Dots.{actor_ok};
 ghost use Rattle.keys.specs.Parts.{tail_length, tail_bytes, FrontPut};
-ghost use Rattle.keys.specs.Tests.{Typed, front_ok, label_after, actor_after, end_after, after_ok};
+ghost use Rattle.keys.specs.Tests.{kind_of, Typed, front_ok, label_after, actor_after, end_after, after_ok};
 
 // Bytes of a label key before its label beside the name, after its label, and in all beside name and label.
 pub const PREFIX_FIXED: usize = 4;
@@ -30,6 +30,7 @@ pub enum KeyKind {
 }
 
 // What a key says: its type, where name and label stand, actor and counter; a field that the type lacks is 0.
+// Not an enum with fields: `read_as` (specs/Read) and ptl_read_key of the C interface have all fields of every key.
 #[derive(Clone, Copy)]
 pub struct KeyFields {
     pub kind: KeyKind,
@@ -39,7 +40,7 @@ pub struct KeyFields {
     pub counter: u64,
 }
 
-// A key to write. A field that the type lacks is not looked at.
+// A key to write. A field that the type lacks is not looked at. Not an enum with fields: ptl_write_key of the C interface is given them all.
 #[derive(Clone, Copy)]
 pub struct NewKey<'a> {
     pub kind: KeyKind,
@@ -80,6 +81,13 @@ impl TryFrom<u8> for KeyKind {
             _ => Err(dots::Answer::BadShape),
         }
     }
+}
+
+// The type of a type byte, and that of end keys for a byte that is none.
+pub fn kind_of(byte: u8) -> KeyKind
+    ensures { result ≡ kind_of byte }
+{
+    KeyKind::try_from(byte).unwrap_or(KeyKind::EndKey)
 }
 
 impl KeyKind {
@@ -240,25 +248,7 @@ pub fn write_key(key: NewKey, out: &mut [u8]) -> Result<usize, dots::Answer>
 fn rest<'a>(s: &'a [u8], at: usize) -> &'a [u8]
     ensures { result.now ≡ drop at s.now }
 {
-    s.get(at..).unwrap_or(&s[..0])
-}
-
-// The length of the set name: it ends at the first 00 after magic and version byte.
-fn name_length(s: &[u8]) -> usize
-    ensures { (result ≡ name_length s.now) × (result ≤ length s.now) }
-{
-    search::zero_at(rest(s, 2))
-}
-
-// Whether magic byte, version byte, the length n of the name and the type byte are those of a key.
-fn front_ok(s: &[u8], kind: KeyKind, n: usize) -> bool
-    requires { (n ≡ name_length s.now) × (n ≤ length s.now) }
-    ensures { result ≡ front_ok kind s.now }
-{
-    let magic = wire::byte_at(s, 0);
-    let version = wire::byte_at(s, 1);
-    let byte = wire::byte_at(s, n + 3);
-    (magic == 2) & (version == 1) & ((1 <= n) & (n <= dots::NAME_MOST)) & (byte == u8::from(kind))
+    s.get(at..).unwrap_or_default()
 }
 
 // Whether t is label, 00, actor, 00 and counter.
@@ -305,15 +295,7 @@ fn after_ok(kind: KeyKind, t: &[u8]) -> bool
     }
 }
 
-// Whether s is a key of this type; n is the length of its name.
-fn is_key(s: &[u8], kind: KeyKind, n: usize) -> bool
-    requires { (n ≡ name_length s.now) × (n ≤ length s.now) }
-    ensures { result ≡ is_key kind s.now }
-{
-    let front = front_ok(s, kind, n);
-    let after = after_ok(kind, rest(s, n + PREFIX_FIXED));
-    front & after
-}
+// The three functions that follow are apart: what they read has three types, and a function with the reading as a closure would be no plainer.
 
 // Where the label stands, if the type has one.
 fn label_span(kind: KeyKind, at: usize, len: usize) -> wire::Span
@@ -349,18 +331,64 @@ fn counter_at(s: &[u8], kind: KeyKind, at: usize) -> u64
     }
 }
 
-// The fields of a key of this type; n is the length of its name.
-fn found_key(s: &[u8], kind: KeyKind, n: usize) -> KeyFields
-    requires { (is_key kind s.now ≡ true) × (n ≡ name_length s.now) × (n ≤ length s.now) }
-    ensures { read_as (Ok result) ≡ found_key kind s.now }
-{
-    let l = search::zero_at(rest(s, n + PREFIX_FIXED));
-    KeyFields {
-        kind,
-        name: wire::Span { at: 2, len: n },
-        label: label_span(kind, n + PREFIX_FIXED, l),
-        actor: actor_at(s, kind, n + l + 5),
-        counter: counter_at(s, kind, n + l + 7),
+// Bytes that may be a key, and the length of their set name: it ends at the first 00 after magic and version byte.
+#[derive(Clone, Copy)]
+struct Named<'a> {
+    bytes: &'a [u8],
+    len: usize,
+    ghost named: { len ≡ name_length bytes.now },
+    ghost fits: { len ≤ length bytes.now },
+    ghost are_bytes: { AreBytes bytes.now },
+}
+
+impl<'a> Named<'a> {
+    // The bytes with the length of their set name.
+    fn new(bytes: &'a [u8]) -> Named<'a>
+        ensures { result.bytes.now ≡ bytes.now }
+    {
+        Named {
+            bytes,
+            len: search::zero_at(rest(bytes, 2)),
+        }
+    }
+
+    // Whether magic byte, version byte, the length of the name and the type byte are those of a key.
+    fn front_ok(self, kind: KeyKind) -> bool
+        ensures { result ≡ front_ok kind self.entry.bytes.now }
+    {
+        let magic = wire::byte_at(self.bytes, 0);
+        let version = wire::byte_at(self.bytes, 1);
+        let byte = wire::byte_at(self.bytes, self.len + 3);
+        (magic == 2)
+            & (version == 1)
+            & ((1 <= self.len) & (self.len <= dots::NAME_MOST))
+            & (byte == u8::from(kind))
+    }
+
+    // Whether the bytes are a key of this type.
+    fn is_key(self, kind: KeyKind) -> bool
+        ensures { result ≡ is_key kind self.entry.bytes.now }
+    {
+        let front = self.front_ok(kind);
+        let after = after_ok(kind, rest(self.bytes, self.len + PREFIX_FIXED));
+        front & after
+    }
+
+    // The fields of a key of this type.
+    fn found_key(self, kind: KeyKind) -> KeyFields
+        requires { is_key kind self.bytes.now ≡ true }
+        ensures { read_as (Ok result) ≡ found_key kind self.entry.bytes.now }
+    {
+        let s = self.bytes;
+        let n = self.len;
+        let l = search::zero_at(rest(s, n + PREFIX_FIXED));
+        KeyFields {
+            kind,
+            name: wire::Span { at: 2, len: n },
+            label: label_span(kind, n + PREFIX_FIXED, l),
+            actor: actor_at(s, kind, n + l + 5),
+            counter: counter_at(s, kind, n + l + 7),
+        }
     }
 }
 
@@ -368,10 +396,10 @@ fn found_key(s: &[u8], kind: KeyKind, n: usize) -> KeyFields
 pub fn read_key(s: &[u8]) -> Result<KeyFields, dots::Answer>
     ensures { read_as result ≡ read_key s.now }
 {
-    let n = name_length(s);
-    let kind = KeyKind::try_from(wire::byte_at(s, n + 3))?;
-    if is_key(s, kind, n) {
-        Ok(found_key(s, kind, n))
+    let named = Named::new(s);
+    let kind = KeyKind::try_from(wire::byte_at(s, named.len + 3))?;
+    if named.is_key(kind) {
+        Ok(named.found_key(kind))
     } else {
         Err(dots::Answer::BadShape)
     }

@@ -10,7 +10,7 @@ use std::alloc::Global;
 
 // ---- numbers
 
-// NUM.
+// NUM. Not by std's parse, which takes a sign and 0s in front; what is no number and what is too large are told apart.
 pub fn number(field: &[u8]) -> Result<u64, Why> {
     let has_zero = field.len() > 1 && field.starts_with(b"0");
     if field.is_empty() || has_zero || !field.iter().all(|c| c.is_ascii_digit()) {
@@ -69,7 +69,7 @@ pub fn controller(field: &[u8]) -> Result<Place, Why> {
     }
 }
 
-// A key's type.
+// A key's type. A byte and not a kind: ptl_write_key of the C interface takes the byte.
 pub fn key_type(field: &[u8]) -> Result<u8, Why> {
     match field {
         [kind @ (b'c' | b'd' | b'e' | b'z')] => Ok(*kind),
@@ -79,7 +79,7 @@ pub fn key_type(field: &[u8]) -> Result<u8, Why> {
 
 // ---- bytes
 
-// The value of a hexadecimal digit, whose letters begin at `ten`.
+// The value of a hexadecimal digit, whose letters begin at `ten`. Not by std, which takes both cases of letters: here one alone is a digit.
 fn digit(c: u8, ten: u8) -> Option<u8> {
     if c.is_ascii_digit() {
         return Some(c & 15);

@@ -21,7 +21,7 @@ impl fmt::Display for Hex<'_> {
     }
 }
 
-// A hexadecimal digit.
+// A hexadecimal digit. Not `{b:02X}`: must-fail/digit_above_15 breaks what this function requires, and may not go.
 fn digit(n: u8) -> u8
     requires { n < 16 }
 {

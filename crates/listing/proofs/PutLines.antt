@@ -1,6 +1,6 @@
 -- The bytes of a line, put one part after the other: a walk over keys of one length puts their listed dots. Assumes nothing.
 use mathlib.Core.Path.{◌≡◌, refl, sym, ap, ◌∙◌}
-use mathlib.Core.Bool.{Bool, true, false}
+use mathlib.Core.Bool.{Bool, true, false, not}
 use mathlib.Core.List.{List, [], ◌∷◌, ◌++◌, append_assoc, append-nil}
 use Prim.Native.Nat.{ℕ, ◌+◌, ◌-◌, ◌*◌, ◌≤◌, ◌<◌}
 use native.Mathlib.Omega.{arith}
@@ -8,6 +8,8 @@ use lib.Dec.{leb, eqb}
 use lib.ListN.{length, take, drop, length-append, length-drop, drop_of_length-le}
 use lib.Seq.{take_at, drop_at, drop-drop}
 use borrow.Author.Tests.{leb-true, leb-false, eqb-true}
+use Rattle.std.specs.Prelude.{Option}
+use Rattle.std.specs.Bool.{then_some}
 use Rattle.wire.specs.Lists.{cons_if, keep, all}
 use Rattle.wire.specs.Bytes.{Bytes, put_at}
 use Rattle.wire.proofs.BigEndian.{length-big_endian}
@@ -15,14 +17,15 @@ use Rattle.wire.proofs.Fields.{put_next, put_front, part_length}
 use Rattle.wire.proofs.Parts.{rest_part, size-part}
 use Rattle.dots.specs.declared.Dot.{Dot}
 use Rattle.dots.specs.Names.{Label, label_most}
-use Rattle.dots.specs.Wire.{dot_bytes, dots_bytes, dot_size}
+use Rattle.dots.specs.Wire.{dots_of, dot_bytes, dots_bytes, dot_size}
 use Rattle.dots.proofs.RoundTrip.{length-dots, dots-append}
 use Rattle.keys.specs.Key.{prefix_fixed, suffix_size}
 use Rattle.store.specs.Cut.{key_length, keys_of, key_dot, entries_in}
 use Rattle.store.proofs.Walk.{first_key_lem, key-size, end-within, every_here, every_later}
+use Rattle.slots.specs.declared.SlottedDots.{SlottedDots}
 use Rattle.listing.specs.declared.ListedLine.{ListedLine}
-use Rattle.listing.specs.Listing.{line_fixed, line_bytes, line_size}
-use Rattle.listing.specs.Lines.{label_of, dots_in, listed_dots, FirstLine, line_head, line_of}
+use Rattle.listing.specs.Listing.{is_live, line_fixed, line_bytes, line_size}
+use Rattle.listing.specs.Lines.{label_of, dots_in, listed_dots, listed_by, FirstLine, line_head, line_of}
 use Rattle.listing.proofs.Listings.{length-line}
 use Rattle.listing.proofs.ListedKeys.{no_entries}
 
@@ -178,7 +181,7 @@ module _ (n : ℕ) (keys : Bytes) (p : Dot → Bool) (size : ℕ) (out₀ out : 
         }
 
 -- all dots
-abbrev pub every_dot : Dot → Bool
+abbrev every_dot : Dot → Bool
 every_dot d = true
 
 keep_every : (ds : List Dot) → keep every_dot ds ≡ ds
@@ -186,11 +189,11 @@ unfolding keep
 keep_every [] = refl
 keep_every (d ∷ ds) = ap (λ (t : List Dot). d ∷ t) (keep_every ds)
 
-pub every_room : (n : ℕ) (keys : Bytes) (room : ℕ) → dot_size * length (dots_in n keys) ≤ room → dot_size * length (kept_dots n keys every_dot) ≤ room
-every_room n keys room h = rw (keep_every (dots_in n keys)) h
-
-pub every_end : (n : ℕ) (keys out out' : Bytes) → out' ≡ put_at out 0 (dots_bytes (kept_dots n keys every_dot)) → out' ≡ put_at out 0 (dots_bytes (dots_in n keys))
-every_end n keys out out' put = put ∙ ap (λ (ds : List Dot). put_at out 0 (dots_bytes ds)) (keep_every (dots_in n keys))
+-- where all dots are listed, no dead ones are given
+keep_chosen : (all : Bool) (s : SlottedDots) (ds : List Dot) → (all ≡ true → keep (is_live (dots_of s.dots.now)) ds ≡ ds)
+    → keep (listed_by (then_some (not all) s)) ds ≡ keep (is_live (dots_of s.dots.now)) ds
+keep_chosen true s ds e = keep_every ds ∙ sym (e refl)
+keep_chosen false s ds e = refl
 
 -- ---- the parts of a line
 
@@ -230,11 +233,6 @@ module _ (n : ℕ) (keys : Bytes) (tombstone : List Dot) (l : ListedLine) (first
       pub dots-room : dot_size * length (listed_dots n (take l.end keys) tombstone) ≤ length (take (length head - next) (drop next head))
       dots-room = rw (rest_part, length-drop) (omega (arith, next-is, line-room, first.count-is))
 
-      -- all of its dots are listed
-      module _ (all : l.all ≡ true) where
-        pub all_dots_room : dot_size * length (dots_in n (take l.end keys)) ≤ length (take (length head - next) (drop next head))
-        all_dots_room = rw (← (first.all-is all)) dots-room
-
       pub line-put : (out part : Bytes) → length out ≡ room → head ≡ put_at out 0 (line_head (label_part n keys l.len) l.count)
           → part ≡ put_at (take (length head - next) (drop next head)) 0 (dots_bytes (listed_dots n (take l.end keys) tombstone))
           → take next head ++ (part ++ drop (length head - next) (drop next head)) ≡ put_at out 0 (line_bytes (line_of n keys tombstone l))
@@ -246,8 +244,18 @@ module _ (n : ℕ) (keys : Bytes) (tombstone : List Dot) (l : ListedLine) (first
           (omega (arith, next-is)) (put-part head part (dots_bytes ds) next f) (omega (arith, next-within))
           ∙ ap (put_at out 0) (rw (append_assoc, first.count-is))
 
-      pub all_line_put : l.all ≡ true → (out part : Bytes) → length out ≡ room → head ≡ put_at out 0 (line_head (label_part n keys l.len) l.count)
-          → part ≡ put_at (take (length head - next) (drop next head)) 0 (dots_bytes (dots_in n (take l.end keys)))
-          → take next head ++ (part ++ drop (length head - next) (drop next head)) ≡ put_at out 0 (line_bytes (line_of n keys tombstone l))
-      all_line_put all out part size e f =
-          line-put out part size e (f ∙ ap (λ (ds : List Dot). put_at (take (length head - next) (drop next head)) 0 (dots_bytes ds)) (sym (first.all-is all)))
+-- the same with the dead dots that are given
+module _ (n : ℕ) (keys : Bytes) (s : SlottedDots) (l : ListedLine) (first : FirstLine n keys (dots_of s.dots.now) l) (dead : Option SlottedDots) (given : dead ≡ then_some (not l.all) s) where
+  chosen : keep (listed_by dead) (dots_in n (take l.end keys)) ≡ listed_dots n (take l.end keys) (dots_of s.dots.now)
+  chosen = rw given (keep_chosen l.all s (dots_in n (take l.end keys)) first.all-is)
+
+  module _ (room : ℕ) (fits : line_size (line_of n keys (dots_of s.dots.now) l) ≤ room) (head : Bytes) (next : ℕ) (same : length head ≡ room) (after : next ≡ length (label_part n keys l.len) + line_fixed) where
+    pub given-room : dot_size * length (keep (listed_by dead) (dots_in n (take l.end keys))) ≤ length (take (length head - next) (drop next head))
+    given-room = rw chosen (dots-room n keys (dots_of s.dots.now) l first room fits head next same after)
+
+    pub given-put : (out part : Bytes) → length out ≡ room → head ≡ put_at out 0 (line_head (label_part n keys l.len) l.count)
+        → part ≡ put_at (take (length head - next) (drop next head)) 0 (dots_bytes (keep (listed_by dead) (dots_in n (take l.end keys))))
+        → take next head ++ (part ++ drop (length head - next) (drop next head)) ≡ put_at out 0 (line_bytes (line_of n keys (dots_of s.dots.now) l))
+    given-put out part size e f =
+        line-put n keys (dots_of s.dots.now) l first room fits head next same after out part size e
+        (f ∙ ap (λ (ds : List Dot). put_at (take (length head - next) (drop next head)) 0 (dots_bytes ds)) chosen)

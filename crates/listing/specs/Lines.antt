@@ -1,10 +1,11 @@
 -- The line at the front of keys end to end: where its keys end, how many of its dots are listed, and its bytes. n is the length of the set's name.
-use Rattle.std.specs.Prelude.{ℕ, ◌+◌, ◌*◌, ◌≤◌, ◌<◌, Bool, true, cond, ◌&&◌, List, [], ◌∷◌, ◌++◌, map, ◌≡◌, eqb, leb, length, take, drop}
+use Rattle.std.specs.Prelude.{ℕ, ◌+◌, ◌*◌, ◌≤◌, ◌<◌, Bool, true, cond, ◌&&◌, List, [], ◌∷◌, ◌++◌, map, ◌≡◌, eqb, leb, length, take, drop, Option, None, Some}
 use Rattle.wire.specs.Lists.{keep, all}
 use Rattle.wire.specs.Bytes.{Bytes, big_endian, part_at, put_at, starts_with}
 use Rattle.dots.specs.declared.Dot.{Dot}
 use Rattle.dots.specs.Names.{Label, name_most, label_most}
-use Rattle.dots.specs.Wire.{dot_size}
+use Rattle.dots.specs.Wire.{dots_of, dot_size}
+use Rattle.slots.specs.declared.SlottedDots.{SlottedDots}
 use Rattle.dots.specs.Entries.{entry_dot, Line, line}
 use Rattle.keys.specs.Key.{label_key_fixed, prefix_fixed}
 use Rattle.store.specs.Cut.{keys_of, key_dot, entries_in}
@@ -28,6 +29,11 @@ dots_in n keys = map entry_dot (entries_in n keys)
 
 abbrev pub listed_dots : ℕ → Bytes → List Dot → List Dot
 listed_dots n keys tombstone = keep (is_live tombstone) (dots_in n keys)
+
+-- whether a dot is listed: those are that are not among the dead ones, and all where none are given
+abbrev pub listed_by : Option SlottedDots → Dot → Bool
+listed_by None d = true
+listed_by (Some dead) d = is_live (dots_of dead.dots.now) d
 
 -- the line with one more key of its label
 unfoldable pub with_key : ℕ → Bytes → List Dot → ListedLine → ListedLine
@@ -85,16 +91,11 @@ pub record FirstLine (n : ℕ) (keys : Bytes) (tombstone : List Dot) (r : Listed
 abbrev pub line_head : Label → ℕ → Bytes
 line_head label count = length label ∷ (label ++ big_endian 2 count)
 
--- what writing the dots of keys of one label counts on: keys of one length, and room for the dots
-abbrev pub CanPutAllDots : ℕ → ℕ → Bytes → ℕ → Type 0
-CanPutAllDots n len keys room =
+-- what writing the dots of keys of one label counts on: keys of one length, and room for the listed dots
+abbrev pub CanPutDots : ℕ → ℕ → Bytes → Option SlottedDots → ℕ → Type 0
+CanPutDots n len keys dead room =
     (n ≤ name_most) × (len ≤ label_most) × (all (λ (k : Bytes). eqb (length k) (n + len + label_key_fixed)) (keys_of n keys) ≡ true)
-    × (dot_size * length (dots_in n keys) ≤ room)
-
-abbrev pub CanPutDots : ℕ → ℕ → Bytes → List Dot → ℕ → Type 0
-CanPutDots n len keys tombstone room =
-    (n ≤ name_most) × (len ≤ label_most) × (all (λ (k : Bytes). eqb (length k) (n + len + label_key_fixed)) (keys_of n keys) ≡ true)
-    × (dot_size * length (listed_dots n keys tombstone) ≤ room)
+    × (dot_size * length (keep (listed_by dead) (dots_in n keys)) ≤ room)
 
 -- the line's label with its listed dots
 abbrev pub line_of : ℕ → Bytes → List Dot → ListedLine → Line

@@ -3,7 +3,7 @@
 #![tactic(auto)]
 
 ghost use Rattle.std.specs.Prelude.{◌≡◌, true, ◌+◌, ◌-◌, ◌^◌, ◌≤◌, ◌<◌, length};
-ghost use Rattle.wire.specs.Lists.{any};
+ghost use Rattle.wire.specs.Lists.{any, keep};
 ghost use Rattle.wire.specs.Bytes.{put_at};
 ghost use Rattle.dots.specs.Names.{name_most, label_most};
 ghost use Rattle.dots.specs.Dots.{ascending_dots};
@@ -13,7 +13,7 @@ ghost use Rattle.keys.specs.Key.{suffix_size};
 ghost use Rattle.store.specs.Cut.{key_dot, entries_in};
 ghost use Rattle.store.specs.Valid.{keys_fit};
 ghost use Rattle.listing.specs.Listing.{is_live, key_lines, line_fixed, line_bytes, CanList, PutsOrCounts, PutsWanted};
-ghost use Rattle.listing.specs.Lines.{CanAddKey, with_key, CanGoOn, goes_on, FirstLine, listed_size, dots_in, listed_dots, line_head, CanPutAllDots, CanPutDots, line_of, CanPutLine, lines_of_line, CanPutListed, ListedPut};
+ghost use Rattle.listing.specs.Lines.{CanAddKey, with_key, CanGoOn, goes_on, FirstLine, listed_size, dots_in, listed_by, line_head, CanPutDots, line_of, CanPutLine, lines_of_line, CanPutListed, ListedPut};
 
 // Bytes of a line beside its label and its dots: the label's length and the number of dots.
 pub const LINE_FIXED: usize = 3;
@@ -25,12 +25,13 @@ pub fn any_live(n: usize, keys: &[u8], tombstone: &[u8]) -> bool
     requires { (n ≤ name_most) × (keys_fit n keys.now ≡ true) × (ascending_dots (dots_of tombstone.now) ≡ true) }
     ensures { result ≡ any (λ (e : Entry). is_live (dots_of tombstone.now) e.dot) (entries_in n keys.now) }
 {
+    let dead = contexts::AscendingDots { dots: tombstone };
     let mut at = 0;
-    // `at` is no index: keys differ in length, and each says where it ends.
+    // `at` is the place of document 01's reader, and no index: keys differ in length, and each says where it ends.
     while at < keys.len() {
         let end = reader::key_end(keys, at, n);
         let dot = store::key_dot(&keys[at..end]);
-        if !contexts::holds_dot(tombstone, dot) {
+        if !dead.holds(dot) {
             return true;
         }
         at = end;
@@ -161,27 +162,26 @@ fn put_key_dot(out: &mut [u8], at: usize, key: &[u8]) -> usize
     moves::put(out, next, &key[counter..end])
 }
 
-// Puts the dots of keys with labels of one length at the front of out.
-fn put_all_dots(n: usize, len: usize, keys: &[u8], out: &mut [u8])
-    requires { CanPutAllDots n len keys.now (length out.old) }
-    ensures { out.new ≡ put_at out.old 0 (dots_bytes (dots_in n keys.now)) }
+// Whether the dot of a key is listed: where no dead dots are given, each is.
+fn is_listed(dead: Option<slots::SlottedDots<'_>>, key: &[u8]) -> bool
+    requires { suffix_size - 1 ≤ length key.now }
+    ensures { result ≡ listed_by dead.entry (key_dot key.now) }
 {
-    let size = n + len + keys::LABEL_KEY_FIXED;
-    let mut next = 0;
-    for key in keys.chunks_exact(size) {
-        next = put_key_dot(out, next, key);
+    match dead {
+        Some(dots) => !dots.holds(store::key_dot(key)),
+        None => true,
     }
 }
 
-// The same of the listed dots alone.
-fn put_dots(n: usize, len: usize, keys: &[u8], dead: slots::SlottedDots<'_>, out: &mut [u8])
-    requires { CanPutDots n len keys.now (dots_of dead.dots.now) (length out.old) }
-    ensures { out.new ≡ put_at out.old 0 (dots_bytes (listed_dots n keys.now (dots_of dead.entry.dots.now))) }
+// Puts the listed dots of keys with labels of one length at the front of out.
+fn put_dots(n: usize, len: usize, keys: &[u8], dead: Option<slots::SlottedDots<'_>>, out: &mut [u8])
+    requires { CanPutDots n len keys.now dead (length out.old) }
+    ensures { out.new ≡ put_at out.old 0 (dots_bytes (keep (listed_by dead.entry) (dots_in n keys.now))) }
 {
     let size = n + len + keys::LABEL_KEY_FIXED;
     let mut next = 0;
     for key in keys.chunks_exact(size) {
-        if !dead.holds(store::key_dot(key)) {
+        if is_listed(dead, key) {
             next = put_key_dot(out, next, key);
         }
     }
@@ -207,11 +207,8 @@ impl<'a> Listing<'a> {
         let to = from + len;
         let end = line.end;
         let next = put_head(out, &self.keys[from..to], line.count);
-        if line.all {
-            put_all_dots(n, len, &self.keys[..end], &mut out[next..]);
-            return;
-        }
-        put_dots(n, len, &self.keys[..end], self.dead, &mut out[next..]);
+        let dead = (!line.all).then_some(self.dead);
+        put_dots(n, len, &self.keys[..end], dead, &mut out[next..]);
     }
 
     // The same, where a dot of it is listed. Returns how many lines that is.
@@ -265,6 +262,7 @@ impl<'a> Listing<'a> {
 }
 
 // Puts as many whole lines of the listing of keys as fit; where all are wanted and do not fit, none.
+// `all` stays a flag: two functions would make `put_used` (reads) two as well, alike but for one call, and so be no plainer.
 pub fn put_wanted(
     n: usize,
     keys: &[u8],

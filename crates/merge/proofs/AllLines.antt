@@ -3,15 +3,13 @@ use mathlib.Core.Path.{◌≡◌, refl, sym, ap, ap₂, ◌∙◌, subst}
 use mathlib.Core.Logic.{inr}
 use mathlib.Core.Bool.{Bool, true, false, cond, true≢false}
 use mathlib.Core.List.{List, [], ◌∷◌, ◌++◌, append_assoc, append-nil}
-use Prim.Native.Nat.{ℕ, ◌+◌, ◌-◌, ◌≤◌, ◌<◌}
+use Prim.Native.Nat.{ℕ, ◌+◌, ◌≤◌, ◌<◌}
 use native.Mathlib.Omega.{arith}
 use lib.Dec.{ltb}
 use lib.ListN.{length, take, drop, length-append, length-take, length-drop}
-use lib.Seq.{drop-drop}
 use borrow.Author.Tests.{lt-ltb}
 use Rattle.std.specs.Prelude.{Some, None, Option}
 use Rattle.wire.specs.Bytes.{Bytes}
-use Rattle.wire.proofs.Parts.{rest_part, size-part}
 use Rattle.dots.specs.declared.Dot.{Dot}
 use Rattle.dots.specs.Names.{Label}
 use Rattle.dots.specs.Wire.{dots_of}
@@ -59,21 +57,23 @@ unfolding listing_bytes
 few-lines [] = omega arith
 few-lines (l ∷ ls) = omega (arith, few-lines ls, length-append (line_bytes l) (listing_bytes ls), length-line l.label l.dots)
 
--- the lines so far, and what is left of both stores
-pub record LinesLeft (n : ℕ) (s : Sides) (dry : Bool) (a b o out : Bytes) (bytes labels i j : ℕ) : Type 0 where
-  pub first-within : i ≤ length a
-  pub second-within : j ≤ length b
-  pub left : SameSet n (drop i a) (drop j b)
+-- the lines so far, and what is left of both stores, of a set whose name has m bytes
+pub record LinesLeft (n : ℕ) (s : Sides) (dry : Bool) (a b o out : Bytes) (bytes labels m : ℕ) (a' b' : Bytes) : Type 0 where
+  pub same-name : m ≡ n
+  pub first-within : length a' ≤ length a
+  pub second-within : length b' ≤ length b
+  pub left : SameSet n a' b'
   pub done : List Line
-  pub whole : merged_key_lines n s a b ≡ done ++ merged_key_lines n s (drop i a) (drop j b)
+  pub whole : merged_key_lines n s a b ≡ done ++ merged_key_lines n s a' b'
   pub bytes_are : bytes ≡ length (listing_bytes done)
   pub labels_are : labels ≡ length done
   pub out-is : out ≡ put_unless dry o 0 (listing_bytes done)
   pub same_size : length out ≡ length o
 
-pub lines_start : (n : ℕ) (s : Sides) (dry : Bool) (a b o : Bytes) → SameSet n a b → LinesLeft n s dry a b o o 0 0 0 0
+pub lines_start : (n : ℕ) (s : Sides) (dry : Bool) (a b o : Bytes) → SameSet n a b → LinesLeft n s dry a b o o 0 0 n a b
 unfolding listing_bytes
 lines_start n s dry a b o k = record {
+  same-name = refl;
   first-within = omega arith;
   second-within = omega arith;
   left = k;
@@ -85,15 +85,12 @@ lines_start n s dry a b o k = record {
   same_size = refl;
 }
 
-module _ (n : ℕ) (s : Sides) (dry : Bool) (a b o out : Bytes) (bytes labels i j : ℕ) (w : LinesLeft n s dry a b o out bytes labels i j) where
+module _ (n : ℕ) (s : Sides) (dry : Bool) (a b o out : Bytes) (bytes labels m : ℕ) (a' b' : Bytes) (w : LinesLeft n s dry a b o out bytes labels m a' b') where
   abbrev rest_lines : List Line
-  rest_lines = merged_key_lines n s (drop i a) (drop j b)
+  rest_lines = merged_key_lines n s a' b'
 
-  -- the parts `&a[i..]` and `&b[j..]`
-  pub parts-left : SameSet n (take (length a - i) (drop i a)) (take (length b - j) (drop j b))
-  parts-left =
-      subst (λ (x : Bytes). SameSet n x (take (length b - j) (drop j b))) (sym (rest_part a i))
-      (subst (λ (y : Bytes). SameSet n (drop i a) y) (sym (rest_part b j)) w.left)
+  pub set-left : SameSet m a' b'
+  set-left = rw w.same-name w.left
 
   whole-bytes : length (listing_bytes (merged_key_lines n s a b)) ≡ bytes + length (listing_bytes rest_lines)
   whole-bytes =
@@ -104,25 +101,15 @@ module _ (n : ℕ) (s : Sides) (dry : Bool) (a b o out : Bytes) (bytes labels i 
   few-labels = omega (arith, w.bytes_are, w.labels_are, few-lines w.done)
 
   abbrev Comes : Option NextLabel → Type 0
-  Comes r = ComesNext n (take (length a - i) (drop i a)) (take (length b - j) (drop j b)) r
-
-  comes : (r : Option NextLabel) → Comes r → ComesNext n (drop i a) (drop j b) r
-  comes r read =
-      subst (λ (x : Bytes). ComesNext n x (drop j b) r) (rest_part a i)
-      (subst (λ (y : Bytes). ComesNext n (take (length a - i) (drop i a)) y r) (rest_part b j) read)
+  Comes r = ComesNext m a' b' r
 
   -- the end of both
   all_done : Comes None → merged_key_lines n s a b ≡ w.done
   unfolding lines_of
   all_done read =
-      let e = comes None read in
-      let k = w.first-within in
-      let l = w.second-within in
-      let first : length a ≤ i = omega (arith, length-drop i a, e.0) in
-      let second : length b ≤ j = omega (arith, length-drop j b, e.1) in
       let none : rest_lines ≡ [] =
       ap lines_of
-      (ap₂ (merged_from (row_clock window_width) s.words s.words' (dots_of s.tombstone) (dots_of s.tombstone')) (no_entries n a i first) (no_entries n b j second)
+      (ap₂ (merged_from (row_clock window_width) s.words s.words' (dots_of s.tombstone) (dots_of s.tombstone')) (no_entries n a' 0 (omega (arith, read.0))) (no_entries n b' 0 (omega (arith, read.1)))
       ∙ merged-none (row_clock window_width) s.words s.words' (dots_of s.tombstone) (dots_of s.tombstone')) in
       w.whole ∙ ap (λ (ls : List Line). w.done ++ ls) none ∙ append-nil w.done
 
@@ -131,88 +118,75 @@ module _ (n : ℕ) (s : Sides) (dry : Bool) (a b o out : Bytes) (bytes labels i 
 
   -- a label comes next
   module _ (next : NextLabel) (read : Comes (Some next)) where
-    is : IsNext n (drop i a) (drop j b) next
-    is = comes (Some next) read
+    is : IsNext n a' b' next
+    is = subst (λ (k : ℕ). IsNext k a' b' next) w.same-name read
 
-    pub to-within : i + next.first ≤ length a
-    to-within = let h = is.first-within in let k = w.first-within in omega (arith, length-drop i a)
+    pub front-within : (next.first ≤ length a') × (next.second ≤ length b')
+    front-within = (is.first-within, is.second-within)
 
-    pub end-within : j + next.second ≤ length b
-    end-within = let h = is.second-within in let k = w.second-within in omega (arith, length-drop j b)
+    -- its keys
+    module _ (m' : ℕ) (x y : Bytes) (set : m' ≡ m) (first-are : x ≡ take next.first a') (second-are : y ≡ take next.second b') where
+      abbrev lines : List Line
+      lines = merged_key_lines m' s x y
 
-    -- its keys, the parts `&a[i..to]` and `&b[j..end]`
-    abbrev first_keys : Bytes
-    first_keys = take (i + next.first - i) (drop i a)
+      lines-same : merged_key_lines n s (take next.first a') (take next.second b') ≡ lines
+      lines-same = rw (set, w.same-name, first-are, second-are)
 
-    abbrev second_keys : Bytes
-    second_keys = take (j + next.second - j) (drop j b)
+      label-keys : SameLabel m' next.len x y
+      label-keys = rw (set, w.same-name, first-are, second-are) is.label-keys
 
-    abbrev lines : List Line
-    lines = merged_key_lines n s first_keys second_keys
+      lines_next : rest_lines ≡ lines ++ merged_key_lines n s (drop next.first a') (drop next.second b')
+      lines_next = is.lines s ∙ ap (λ (ls : List Line). ls ++ merged_key_lines n s (drop next.first a') (drop next.second b')) lines-same
 
-    first_eq : first_keys ≡ take next.first (drop i a)
-    first_eq = size-part a i next.first
+      pub part_bytes : bytes + length (listing_bytes lines) ≤ length (listing_bytes (merged_key_lines n s a b))
+      part_bytes =
+          let more : List Line = merged_key_lines n s (drop next.first a') (drop next.second b') in
+          omega (arith, whole-bytes, ap (λ (ls : List Line). length (listing_bytes ls)) lines_next, ap length (listing-append lines more), length-append (listing_bytes lines) (listing_bytes more))
 
-    second_eq : second_keys ≡ take next.second (drop j b)
-    second_eq = size-part b j next.second
+      one_label : length lines ≡ cond (ltb 0 (length (listing_bytes lines))) 1 0
+      one_label =
+          let k = label-keys in
+          rw (label-lines m' next.len s x y k) (one_line k.label (merged_dots m' s x y))
 
-    label-keys : SameLabel n next.len first_keys second_keys
-    label-keys =
-        subst (λ (x : Bytes). SameLabel n next.len x second_keys) (sym first_eq)
-        (subst (λ (y : Bytes). SameLabel n next.len (take next.first (drop i a)) y) (sym second_eq) is.label-keys)
+      pub can_put : Mergeable n a b → (dry ≡ false → length (listing_bytes (merged_key_lines n s a b)) ≤ length o)
+          → CanPut m' (record { len = next.len; at = bytes; dry = dry }) s x y (length out)
+      can_put k room = record {
+        label-keys = label-keys;
+        first_short = let h = k.first_short in let f = w.first-within in omega (arith, ap length first-are, length-take next.first a');
+        second_short = let h = k.second_short in let f = w.second-within in omega (arith, ap length second-are, length-take next.second b');
+        place-low = let h = k.first_short in let f = k.second_short in omega (arith, part_bytes, lines-short n s a b k.same_set);
+        has_room = λ f. omega (arith, part_bytes, room f, w.same_size);
+      }
 
-    rests : SameSet n (drop (i + next.first) a) (drop (j + next.second) b)
-    rests =
-        subst (λ (x : Bytes). SameSet n x (drop (j + next.second) b)) (drop-drop next.first i a)
-        (subst (λ (y : Bytes). SameSet n (drop next.first (drop i a)) y) (drop-drop next.second j b) is.rests)
+      -- what follows them
+      module _ (m'' : ℕ) (x' y' : Bytes) (set' : m'' ≡ m) (first-rest : x' ≡ drop next.first a') (second-rest : y' ≡ drop next.second b') where
+        pub lines-on : (size : ℕ) (out' : Bytes) → size ≡ length (listing_bytes lines) → out' ≡ put_unless dry out bytes (listing_bytes lines)
+            → (dry ≡ false → length (listing_bytes (merged_key_lines n s a b)) ≤ length o) → (labels' : ℕ) → labels' ≡ labels + cond (ltb 0 size) 1 0
+            → LinesLeft n s dry a b o out' (bytes + size) labels' m'' x' y'
+        lines-on size out' e put room labels' q = record {
+          same-name = set' ∙ w.same-name;
+          first-within = let f = w.first-within in omega (arith, ap length first-rest, length-drop next.first a');
+          second-within = let f = w.second-within in omega (arith, ap length second-rest, length-drop next.second b');
+          left = rw (first-rest, second-rest) is.rests;
+          done = w.done ++ lines;
+          whole =
+              rw (first-rest, second-rest)
+              (w.whole ∙ ap (λ (ls : List Line). w.done ++ ls) lines_next
+              ∙ sym (append_assoc w.done lines (merged_key_lines n s (drop next.first a') (drop next.second b'))));
+          bytes_are = omega (arith, w.bytes_are, e, ap length (listing-append w.done lines), length-append (listing_bytes w.done) (listing_bytes lines));
+          labels_are = q ∙ ap₂ ◌+◌ w.labels_are (ap (λ (z : ℕ). cond (ltb 0 z) 1 0) e ∙ sym one_label) ∙ sym (length-append w.done lines);
+          out-is =
+              unless_next dry o out out' (listing_bytes w.done) (listing_bytes lines) 0 bytes w.out-is (omega (arith, w.bytes_are)) put (λ f. omega (arith, part_bytes, room f))
+              ∙ ap (put_unless dry o 0) (sym (listing-append w.done lines));
+          same_size = ap length put ∙ length_unless dry out (listing_bytes lines) bytes (λ f. omega (arith, part_bytes, room f, w.same_size)) ∙ w.same_size;
+        }
 
-    lines_next : rest_lines ≡ lines ++ merged_key_lines n s (drop (i + next.first) a) (drop (j + next.second) b)
-    lines_next =
-        is.lines s
-        ∙ ap₂ ◌++◌ (ap₂ (merged_key_lines n s) (sym first_eq) (sym second_eq)) (ap₂ (merged_key_lines n s) (drop-drop next.first i a) (drop-drop next.second j b))
-
-    pub part_bytes : bytes + length (listing_bytes lines) ≤ length (listing_bytes (merged_key_lines n s a b))
-    part_bytes =
-        let more : List Line = merged_key_lines n s (drop (i + next.first) a) (drop (j + next.second) b) in
-        omega (arith, whole-bytes, ap (λ (ls : List Line). length (listing_bytes ls)) lines_next, ap length (listing-append lines more), length-append (listing_bytes lines) (listing_bytes more))
-
-    one_label : length lines ≡ cond (ltb 0 (length (listing_bytes lines))) 1 0
-    one_label =
-        let k = label-keys in
-        rw (label-lines n next.len s first_keys second_keys k) (one_line k.label (merged_dots n s first_keys second_keys))
-
-    pub can_put : Mergeable n a b → (dry ≡ false → length (listing_bytes (merged_key_lines n s a b)) ≤ length o)
-        → CanPut (record { n = n; len = next.len; at = bytes; dry = dry }) s first_keys second_keys (length out)
-    can_put m room = record {
-      short-name = m.short-name;
-      label-keys = label-keys;
-      first_short = let h = m.first_short in rw (length-take, length-drop) (omega arith);
-      second_short = let h = m.second_short in rw (length-take, length-drop) (omega arith);
-      place-low = let h = m.first_short in let k = m.second_short in omega (arith, part_bytes, lines-short n s a b m.same_set);
-      has_room = λ f. omega (arith, part_bytes, room f, w.same_size);
-    }
-
-    pub lines-on : (size : ℕ) (out' : Bytes) → size ≡ length (listing_bytes lines) → out' ≡ put_unless dry out bytes (listing_bytes lines)
-        → (dry ≡ false → length (listing_bytes (merged_key_lines n s a b)) ≤ length o) → (labels' : ℕ) → labels' ≡ labels + cond (ltb 0 size) 1 0
-        → LinesLeft n s dry a b o out' (bytes + size) labels' (i + next.first) (j + next.second)
-    lines-on size out' e put room labels' q = record {
-      first-within = to-within;
-      second-within = end-within;
-      left = rests;
-      done = w.done ++ lines;
-      whole =
-          w.whole ∙ ap (λ (ls : List Line). w.done ++ ls) lines_next
-          ∙ sym (append_assoc w.done lines (merged_key_lines n s (drop (i + next.first) a) (drop (j + next.second) b)));
-      bytes_are = omega (arith, w.bytes_are, ap length (listing-append w.done lines), length-append (listing_bytes w.done) (listing_bytes lines));
-      labels_are = q ∙ ap₂ ◌+◌ w.labels_are (ap (λ (z : ℕ). cond (ltb 0 z) 1 0) e ∙ sym one_label) ∙ sym (length-append w.done lines);
-      out-is =
-          unless_next dry o out out' (listing_bytes w.done) (listing_bytes lines) 0 bytes w.out-is (omega (arith, w.bytes_are)) put (λ f. omega (arith, part_bytes, room f))
-          ∙ ap (put_unless dry o 0) (sym (listing-append w.done lines));
-      same_size = ap length put ∙ length_unless dry out (listing_bytes lines) bytes (λ f. omega (arith, part_bytes, room f, w.same_size)) ∙ w.same_size;
-    }
-
-    pub fewer-left : length a - (i + next.first) + (length b - (j + next.second)) < length a - i + (length b - j)
-    fewer-left = let p = is.some in omega (arith, to-within, end-within)
+        pub fewer-left : length x' + length y' < length a' + length b'
+        fewer-left =
+            let p = is.some in
+            let f = is.first-within in
+            let g = is.second-within in
+            omega (arith, ap length first-rest, ap length second-rest, length-drop next.first a', length-drop next.second b')
 
 -- ---- all of them or none
 

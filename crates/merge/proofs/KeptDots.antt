@@ -6,14 +6,13 @@ use mathlib.Core.List.Memᴰ
 use mathlib.Core.List.{List, [], ◌∷◌, ◌++◌, map, append_assoc, append-nil}
 use Prim.Native.Nat.{ℕ, ◌+◌, ◌-◌, ◌*◌, ◌≤◌, ◌<◌}
 use native.Mathlib.Omega.{arith}
-use lib.ListN.{length, take, drop, length-append, length-drop}
-use lib.Seq.{take_at, drop_at, drop-drop}
+use lib.ListN.{length, drop, length-append, length-drop}
+use lib.Seq.{take_at, drop_at}
 use borrow.Author.Tests.{leb-true, lt-ltb, le-ltb}
 use Rattle.std.specs.Prelude.{Option, Some, None}
 use Rattle.wire.specs.Lists.{cons_if, all, Ascending}
 use Rattle.wire.specs.Bytes.{Bytes}
 use Rattle.wire.proofs.Tests.{both}
-use Rattle.wire.proofs.Parts.{rest_part}
 use Rattle.dots.specs.declared.Dot.{Dot}
 use Rattle.dots.specs.Names.{Name, Label, label_most, label_ok, text_ok}
 use Rattle.dots.specs.Wire.{dots_of, dots_bytes, dot_size}
@@ -116,22 +115,18 @@ module _ (name : Name) (l : Label) where
         go true u = u.1
         go false u = u
 
-  -- of keys from a place on
-  pub past-keys : (keys : Bytes) (at : ℕ) (k : LabelKeys name l (drop at keys)) (b : Bool) (d : Dot) (ds : List Dot) → k.dots ≡ cons_if b d ds
-      → (at' : ℕ) → at' ≡ at + cond b size 0 → LabelKeys name l (drop at' keys)
-  past-keys keys at k b d ds q at' e = record {
+  -- of keys
+  pub past-keys : (keys : Bytes) (k : LabelKeys name l keys) (b : Bool) (d : Dot) (ds : List Dot) → k.dots ≡ cons_if b d ds
+      → (rest : Bytes) → rest ≡ drop (cond b size 0) keys → LabelKeys name l rest
+  past-keys keys k b d ds q rest e = record {
     dots = ds;
-    written =
-        ap (λ (p : ℕ). drop p keys) e ∙ sym (drop-drop (cond b size 0) at keys)
-        ∙ ap (drop (cond b size 0)) (k.written ∙ ap (λ (t : List Dot). bytes_of t) q) ∙ past b d ds;
+    written = e ∙ ap (drop (cond b size 0)) (k.written ∙ ap (λ (t : List Dot). bytes_of t) q) ∙ past b d ds;
     valid = past-valid b d ds (ap (λ (t : List Dot). all entry_ok (map (entry l) t)) (sym q) ∙ k.valid);
     ascend = past_up b d ds (subst (λ (t : List Dot). Ascending compare_entries (map (entry l) t)) q k.ascend);
   }
 
-  pub past_fits : (keys : Bytes) (at : ℕ) (k : LabelKeys name l (drop at keys)) (b : Bool) (d : Dot) (ds : List Dot) → k.dots ≡ cons_if b d ds → at ≤ length keys
-      → at + cond b size 0 ≤ length keys
-  past_fits keys at k b d ds q h =
-      omega (arith, past-within b d ds, ap (λ (t : List Dot). length (bytes_of t)) q, ap length k.written, length-drop at keys)
+  pub past_fits : (keys : Bytes) (k : LabelKeys name l keys) (b : Bool) (d : Dot) (ds : List Dot) → k.dots ≡ cons_if b d ds → cond b size 0 ≤ length keys
+  past_fits keys k b d ds q = omega (arith, past-within b d ds, ap (λ (t : List Dot). length (bytes_of t)) q, ap length k.written)
 
   pub keys-entries : (n : ℕ) → length name ≡ n → (keys : Bytes) (k : LabelKeys name l keys) → entries_in n keys ≡ map (entry l) k.dots
   keys-entries n named keys k = ap (entries_in n) k.written ∙ read_again n name named (map (entry l) k.dots) k.valid
@@ -197,31 +192,29 @@ module _ (n len : ℕ) (s : Sides) (a b : Bytes) (k : SameLabel n len a b) where
 
 -- ---- the walk
 
--- the dots that are put, and the keys from i and j on
-pub record DotsLeft (n len : ℕ) (s : Sides) (dry : Bool) (from : ℕ) (a b o out : Bytes) (count i j : ℕ) : Type 0 where
+-- the dots that are put, and the keys that are left, of a set whose name has m bytes
+pub record DotsLeft (n len : ℕ) (s : Sides) (dry : Bool) (from : ℕ) (a b o out : Bytes) (count m : ℕ) (a' b' : Bytes) : Type 0 where
+  pub same-name : m ≡ n
   pub name : Name
   pub named : length name ≡ n
   pub label : Label
   pub sized : length label ≡ len
-  pub first-within : i ≤ length a
-  pub second-within : j ≤ length b
-  pub first : LabelKeys name label (drop i a)
-  pub second : LabelKeys name label (drop j b)
+  pub first : LabelKeys name label a'
+  pub second : LabelKeys name label b'
   pub done : List Dot
-  pub kept : merged_keys n s a b ≡ map (entry label) done ++ merged_keys n s (drop i a) (drop j b)
+  pub kept : merged_keys n s a b ≡ map (entry label) done ++ merged_keys n s a' b'
   pub counted : count ≡ length done
   pub out-is : out ≡ put_unless dry o from (dots_bytes done)
   pub same_size : length out ≡ length o
 
-pub walk_start : (n len : ℕ) (s : Sides) (dry : Bool) (from : ℕ) (a b o : Bytes) → SameLabel n len a b → DotsLeft n len s dry from a b o o 0 0 0
+pub walk_start : (n len : ℕ) (s : Sides) (dry : Bool) (from : ℕ) (a b o : Bytes) → SameLabel n len a b → DotsLeft n len s dry from a b o o 0 n a b
 unfolding dots_bytes
 walk_start n len s dry from a b o k = record {
+  same-name = refl;
   name = k.name;
   named = k.named;
   label = k.label;
   sized = k.sized;
-  first-within = omega arith;
-  second-within = omega arith;
   first = k.first;
   second = k.second;
   done = [];
@@ -231,7 +224,7 @@ walk_start n len s dry from a b o k = record {
   same_size = refl;
 }
 
-module _ (n len : ℕ) (s : Sides) (dry : Bool) (from : ℕ) (a b o out : Bytes) (count i j : ℕ) (w : DotsLeft n len s dry from a b o out count i j) where
+module _ (n len : ℕ) (s : Sides) (dry : Bool) (from : ℕ) (a b o out : Bytes) (count m : ℕ) (a' b' : Bytes) (w : DotsLeft n len s dry from a b o out count m a' b') where
   abbrev key_size : ℕ
   key_size = n + len + label_key_fixed
 
@@ -239,13 +232,13 @@ module _ (n len : ℕ) (s : Sides) (dry : Bool) (from : ℕ) (a b o out : Bytes)
   size_is = rw (w.named, w.sized)
 
   -- what is left, as the dots of a label
-  left_is : merged_keys n s (drop i a) (drop j b) ≡ merged_dots_from w.label s w.first.dots w.second.dots
+  left_is : merged_keys n s a' b' ≡ merged_dots_from w.label s w.first.dots w.second.dots
   left_is =
       ap₂ (merged_from (row_clock window_width) s.words s.words' (dots_of s.tombstone) (dots_of s.tombstone'))
-      (keys-entries w.name w.label n w.named (drop i a) w.first) (keys-entries w.name w.label n w.named (drop j b) w.second)
+      (keys-entries w.name w.label n w.named a' w.first) (keys-entries w.name w.label n w.named b' w.second)
 
   -- the dots that are kept
-  all-dots : (es : List Entry) → merged_keys n s (drop i a) (drop j b) ≡ es → merged_dots n s a b ≡ w.done ++ map entry_dot es
+  all-dots : (es : List Entry) → merged_keys n s a' b' ≡ es → merged_dots n s a b ≡ w.done ++ map entry_dot es
   all-dots es q = ap (map entry_dot) (w.kept ∙ ap (λ (t : List Entry). map (entry w.label) w.done ++ t) q) ∙ split w.done
     where
       split : (ds : List Dot) → map entry_dot (map (entry w.label) ds ++ es) ≡ ds ++ map entry_dot es
@@ -253,12 +246,12 @@ module _ (n len : ℕ) (s : Sides) (dry : Bool) (from : ℕ) (a b o out : Bytes)
       split (d ∷ ds) = ap (λ (t : List Dot). d ∷ t) (split ds)
 
   pub few-done : length w.done ≤ length (merged_dots n s a b)
-  few-done = let more = merged_keys n s (drop i a) (drop j b) in omega (arith, ap length (all-dots more refl), length-append w.done (map entry_dot more))
+  few-done = let more = merged_keys n s a' b' in omega (arith, ap length (all-dots more refl), length-append w.done (map entry_dot more))
 
-  walk_end : length a ≤ i → length b ≤ j → (count ≡ length (merged_dots n s a b)) × (out ≡ put_unless dry o from (dots_bytes (merged_dots n s a b)))
+  walk_end : length a' ≤ 0 → length b' ≤ 0 → (count ≡ length (merged_dots n s a b)) × (out ≡ put_unless dry o from (dots_bytes (merged_dots n s a b)))
   walk_end h k =
-      let none : merged_keys n s (drop i a) (drop j b) ≡ [] =
-      ap₂ (merged_from (row_clock window_width) s.words s.words' (dots_of s.tombstone) (dots_of s.tombstone')) (no_entries n a i h) (no_entries n b j k)
+      let none : merged_keys n s a' b' ≡ [] =
+      ap₂ (merged_from (row_clock window_width) s.words s.words' (dots_of s.tombstone) (dots_of s.tombstone')) (no_entries n a' 0 h) (no_entries n b' 0 k)
       ∙ merged-none (row_clock window_width) s.words s.words' (dots_of s.tombstone) (dots_of s.tombstone') in
       let all : merged_dots n s a b ≡ w.done = all-dots [] none ∙ append-nil w.done in
       rw all (w.counted, w.out-is)
@@ -268,21 +261,19 @@ module _ (n len : ℕ) (s : Sides) (dry : Bool) (from : ℕ) (a b o out : Bytes)
   first-dot keys k = ap₂ first_dot (sym size_is) k.written ∙ first-is w.name w.label k.dots k.valid
 
   abbrev Comes : Option NextDot → Type 0
-  Comes r = r ≡ next_in (first_dot key_size (take (length a - i) (drop i a))) (first_dot key_size (take (length b - j) (drop j b)))
+  Comes r = r ≡ next_in (first_dot key_size a') (first_dot key_size b')
 
   turned : (r : Option NextDot) → Comes r → Turned w.label s w.first.dots w.second.dots r
   turned r comes =
-      let is : r ≡ next_in (first-of w.first.dots) (first-of w.second.dots) =
-      comes
-      ∙ ap₂ next_in (ap (first_dot key_size) (rest_part a i) ∙ first-dot (drop i a) w.first) (ap (first_dot key_size) (rest_part b j) ∙ first-dot (drop j b) w.second) in
+      let is : r ≡ next_in (first-of w.first.dots) (first-of w.second.dots) = comes ∙ ap₂ next_in (first-dot a' w.first) (first-dot b' w.second) in
       subst (Turned w.label s w.first.dots w.second.dots) (sym is) (dot-turn w.label s w.first.dots w.second.dots w.first.ascend w.second.ascend)
 
   -- no key is left
-  ended : (keys : Bytes) (at : ℕ) (k : LabelKeys w.name w.label (drop at keys)) → k.dots ≡ [] → length keys ≤ at
-  ended keys at k q = omega (arith, ap length (k.written ∙ ap (λ (t : List Dot). store_bytes w.name (map (entry w.label) t)) q), no_bytes w.name w.label, length-drop at keys)
+  ended : (keys : Bytes) (k : LabelKeys w.name w.label keys) → k.dots ≡ [] → length keys ≤ 0
+  ended keys k q = omega (arith, ap length (k.written ∙ ap (λ (t : List Dot). store_bytes w.name (map (entry w.label) t)) q), no_bytes w.name w.label)
 
   pub all-walked : Comes None → (count ≡ length (merged_dots n s a b)) × (out ≡ put_unless dry o from (dots_bytes (merged_dots n s a b)))
-  all-walked comes = let t = turned None comes in walk_end (ended a i w.first t.0) (ended b j w.second t.1)
+  all-walked comes = let t = turned None comes in walk_end (ended a' w.first t.0) (ended b' w.second t.1)
 
   -- a key is left of either
   module _ (next : NextDot) (comes : Comes (Some next)) where
@@ -290,27 +281,27 @@ module _ (n len : ℕ) (s : Sides) (dry : Bool) (from : ℕ) (a b o out : Bytes)
     turn = turned (Some next) comes
 
     -- by the length of a key
-    sized-place : (c : Bool) (at : ℕ) → at + cond c key_size 0 ≡ at + cond c (length w.name + length w.label + label_key_fixed) 0
-    sized-place c at = ap (λ (z : ℕ). at + cond c z 0) (sym size_is)
+    sized-place : (c : Bool) → cond c key_size 0 ≡ cond c (length w.name + length w.label + label_key_fixed) 0
+    sized-place c = ap (λ (z : ℕ). cond c z 0) (sym size_is)
 
-    pub first_fits_lem : i + cond next.first key_size 0 ≤ length a
-    first_fits_lem = omega (arith, sized-place next.first i, past_fits w.name w.label a i w.first next.first next.dot turn.ds' turn.first-is w.first-within)
+    pub first_fits_lem : cond next.first key_size 0 ≤ length a'
+    first_fits_lem = omega (arith, sized-place next.first, past_fits w.name w.label a' w.first next.first next.dot turn.ds' turn.first-is)
 
-    pub second_fits : j + cond next.second key_size 0 ≤ length b
-    second_fits = omega (arith, sized-place next.second j, past_fits w.name w.label b j w.second next.second next.dot turn.es' turn.second_is w.second-within)
+    pub second_fits : cond next.second key_size 0 ≤ length b'
+    second_fits = omega (arith, sized-place next.second, past_fits w.name w.label b' w.second next.second next.dot turn.es' turn.second_is)
 
-    pub falls : length a - (i + cond next.first key_size 0) + (length b - (j + cond next.second key_size 0)) < length a - i + (length b - j)
-    falls = go next.first next.second turn.held first_fits_lem second_fits
+    pub falls : length (drop (cond next.first key_size 0) a') + length (drop (cond next.second key_size 0) b') < length a' + length b'
+    falls = rw (length-drop (cond next.first key_size 0) a', length-drop (cond next.second key_size 0) b') (go next.first next.second turn.held first_fits_lem second_fits)
       where
-        go : (x y : Bool) → (x || y) ≡ true → i + cond x key_size 0 ≤ length a → j + cond y key_size 0 ≤ length b
-            → length a - (i + cond x key_size 0) + (length b - (j + cond y key_size 0)) < length a - i + (length b - j)
+        go : (x y : Bool) → (x || y) ≡ true → cond x key_size 0 ≤ length a' → cond y key_size 0 ≤ length b'
+            → length a' - cond x key_size 0 + (length b' - cond y key_size 0) < length a' + length b'
         go true true t f g = omega arith
         go true false t f g = omega arith
         go false true t f g = omega arith
         go false false t f g = absurd (false≢true t)
 
     module _ (k : Bool) (said : k ≡ keeps_next s next) where
-      left-turned : merged_keys n s (drop i a) (drop j b) ≡ cons_if k (entry w.label next.dot) (merged_dots_from w.label s turn.ds' turn.es')
+      left-turned : merged_keys n s a' b' ≡ cons_if k (entry w.label next.dot) (merged_dots_from w.label s turn.ds' turn.es')
       left-turned = left_is ∙ turn.merged ∙ ap (λ (c : Bool). cons_if c (entry w.label next.dot) (merged_dots_from w.label s turn.ds' turn.es')) (sym said)
 
       pub one_more : k ≡ true → count + 1 ≤ length (merged_dots n s a b)
@@ -319,47 +310,46 @@ module _ (n len : ℕ) (s : Sides) (dry : Bool) (from : ℕ) (a b o out : Bytes)
           let these = all-dots (entry w.label next.dot ∷ more) (left-turned ∙ ap (λ (c : Bool). cons_if c (entry w.label next.dot) more) t) in
           omega (arith, ap length these, length-append w.done (next.dot ∷ map entry_dot more), w.counted)
 
-      module _ (i' j' : ℕ) (p : i' ≡ i + cond next.first key_size 0) (q : j' ≡ j + cond next.second key_size 0) where
-        first' : LabelKeys w.name w.label (drop i' a)
-        first' = past-keys w.name w.label a i w.first next.first next.dot turn.ds' turn.first-is i' (p ∙ sized-place next.first i)
+      module _ (m' : ℕ) (x y : Bytes) (set : m' ≡ m) (p : x ≡ drop (cond next.first key_size 0) a') (q : y ≡ drop (cond next.second key_size 0) b') where
+        first' : LabelKeys w.name w.label x
+        first' = past-keys w.name w.label a' w.first next.first next.dot turn.ds' turn.first-is x (p ∙ ap (λ (z : ℕ). drop z a') (sized-place next.first))
 
-        second' : LabelKeys w.name w.label (drop j' b)
-        second' = past-keys w.name w.label b j w.second next.second next.dot turn.es' turn.second_is j' (q ∙ sized-place next.second j)
+        second' : LabelKeys w.name w.label y
+        second' = past-keys w.name w.label b' w.second next.second next.dot turn.es' turn.second_is y (q ∙ ap (λ (z : ℕ). drop z b') (sized-place next.second))
 
-        left-next : merged_dots_from w.label s turn.ds' turn.es' ≡ merged_keys n s (drop i' a) (drop j' b)
+        left-next : merged_dots_from w.label s turn.ds' turn.es' ≡ merged_keys n s x y
         unfolding past-keys first' second'
         left-next =
             ap₂ (merged_from (row_clock window_width) s.words s.words' (dots_of s.tombstone) (dots_of s.tombstone'))
-            (sym (keys-entries w.name w.label n w.named (drop i' a) first')) (sym (keys-entries w.name w.label n w.named (drop j' b) second'))
+            (sym (keys-entries w.name w.label n w.named x first')) (sym (keys-entries w.name w.label n w.named y second'))
 
         -- with so many dots put
-        go_on : (more : List Dot) (out' : Bytes) (count' : ℕ) → merged_keys n s (drop i a) (drop j b) ≡ map (entry w.label) more ++ merged_keys n s (drop i' a) (drop j' b)
-            → count' ≡ count + length more → out' ≡ put_unless dry o from (dots_bytes (w.done ++ more)) → length out' ≡ length o → DotsLeft n len s dry from a b o out' count' i' j'
+        go_on : (more : List Dot) (out' : Bytes) (count' : ℕ) → merged_keys n s a' b' ≡ map (entry w.label) more ++ merged_keys n s x y
+            → count' ≡ count + length more → out' ≡ put_unless dry o from (dots_bytes (w.done ++ more)) → length out' ≡ length o → DotsLeft n len s dry from a b o out' count' m' x y
         go_on more out' count' these e put size = record {
+          same-name = set ∙ w.same-name;
           name = w.name;
           named = w.named;
           label = w.label;
           sized = w.sized;
-          first-within = omega (arith, first_fits_lem);
-          second-within = omega (arith, second_fits);
           first = first';
           second = second';
           done = w.done ++ more;
           kept =
               w.kept ∙ ap (λ (t : List Entry). map (entry w.label) w.done ++ t) these
-              ∙ sym (append_assoc (map (entry w.label) w.done) (map (entry w.label) more) (merged_keys n s (drop i' a) (drop j' b)))
-              ∙ ap (λ (t : List Entry). t ++ merged_keys n s (drop i' a) (drop j' b)) (sym (map-append w.label w.done more));
+              ∙ sym (append_assoc (map (entry w.label) w.done) (map (entry w.label) more) (merged_keys n s x y))
+              ∙ ap (λ (t : List Entry). t ++ merged_keys n s x y) (sym (map-append w.label w.done more));
           counted = omega (arith, w.counted, length-append w.done more);
           out-is = put;
           same_size = size;
         }
 
         pub walk-on : (count' : ℕ) (out' : Bytes) → PutIf k dry next.dot (from + dot_size * count) out out' count count'
-            → (k ≡ true → dry ≡ false → from + dot_size * count + dot_size ≤ length o) → DotsLeft n len s dry from a b o out' count' i' j'
+            → (k ≡ true → dry ≡ false → from + dot_size * count + dot_size ≤ length o) → DotsLeft n len s dry from a b o out' count' m' x y
         unfolding dots_bytes
         walk-on count' out' put room = go k refl put.0 put.1
           where
-            go : (c : Bool) → k ≡ c → count' ≡ count + length (cons_if c next.dot []) → out' ≡ put_unless dry out (from + dot_size * count) (dots_bytes (cons_if c next.dot [])) → DotsLeft n len s dry from a b o out' count' i' j'
+            go : (c : Bool) → k ≡ c → count' ≡ count + length (cons_if c next.dot []) → out' ≡ put_unless dry out (from + dot_size * count) (dots_bytes (cons_if c next.dot [])) → DotsLeft n len s dry from a b o out' count' m' x y
             go true t e put =
                 go_on (next.dot ∷ []) out' count' (left-turned ∙ ap₂ (λ (c : Bool) (z : List Entry). cons_if c (entry w.label next.dot) z) t left-next) e
                 (unless_next dry o out out' (dots_bytes w.done) (dots_bytes (next.dot ∷ [])) from (from + dot_size * count) w.out-is (omega (arith, w.counted, length-dots w.done)) put
@@ -376,13 +366,13 @@ label_most_lem : (l : Label) → label_ok l ≡ true → length l ≤ label_most
 unfolding text_ok
 label_most_lem l ok = leb-true (length l) label_most (search both)
 
-module _ (spot : Spot) (s : Sides) (a b : Bytes) (room : ℕ) (can : CanPut spot s a b room) where
+module _ (n : ℕ) (spot : Spot) (s : Sides) (a b : Bytes) (room : ℕ) (can : CanPut n spot s a b room) where
   pub label-short : spot.len ≤ label_most
   label-short = let k = can.label-keys in omega (arith, label_most_lem k.label k.labelled, k.sized)
 
-  pub dots-low : dot_size * length (merged_dots spot.n s a b) ≤ 2 * store_most
-  dots-low = let f = can.first_short in let g = can.second_short in omega (arith, dots-few spot.n spot.len s a b can.label-keys)
+  pub dots-low : dot_size * length (merged_dots n s a b) ≤ 2 * store_most
+  dots-low = let f = can.first_short in let g = can.second_short in omega (arith, dots-few n spot.len s a b can.label-keys)
 
   -- there is room for each dot that is kept
-  pub dot-room : spot.dry ≡ false → (count : ℕ) → count + 1 ≤ length (merged_dots spot.n s a b) → spot.at + spot.len + line_fixed + dot_size * count + dot_size ≤ room
-  dot-room f count h = omega (arith, can.has_room f, line-bytes spot.n spot.len s a b can.label-keys (omega arith))
+  pub dot-room : spot.dry ≡ false → (count : ℕ) → count + 1 ≤ length (merged_dots n s a b) → spot.at + spot.len + line_fixed + dot_size * count + dot_size ≤ room
+  dot-room f count h = omega (arith, can.has_room f, line-bytes n spot.len s a b can.label-keys (omega arith))

@@ -59,41 +59,41 @@ module _ (n len : ℕ) (k : Name) (l : Label) (named : length k ≡ n) (sized : 
   unfolding store_bytes end_to_end
   no_keys q = ap length (own.written ∙ ap (λ (t : List Dot). store_bytes k (map (entry l) t)) q)
 
-module _ (spot : Spot) (s : Sides) (a b : Bytes) (room : ℕ) (can : CanPut spot s a b room) where
-  abbrev keys : SameLabel spot.n spot.len a b
+module _ (n : ℕ) (spot : Spot) (s : Sides) (a b : Bytes) (room : ℕ) (can : CanPut n spot s a b room) where
+  abbrev keys : SameLabel n spot.len a b
   keys = can.label-keys
 
   abbrev dots : List Dot
-  dots = merged_dots spot.n s a b
+  dots = merged_dots n s a b
 
   -- a dot is kept, so there are keys
   module _ (some : 0 < length dots) where
     no_dots_lem : keys.first.dots ≡ [] → keys.second.dots ≡ [] → ⊥
     no_dots_lem p q =
-        let none : merged_keys spot.n s a b ≡ [] =
+        let none : merged_keys n s a b ≡ [] =
         ap₂ (merged_from (row_clock window_width) s.words s.words' (dots_of s.tombstone) (dots_of s.tombstone'))
-        (keys-entries keys.name keys.label spot.n keys.named a keys.first ∙ ap (map (entry keys.label)) p)
-        (keys-entries keys.name keys.label spot.n keys.named b keys.second ∙ ap (map (entry keys.label)) q)
+        (keys-entries keys.name keys.label n keys.named a keys.first ∙ ap (map (entry keys.label)) p)
+        (keys-entries keys.name keys.label n keys.named b keys.second ∙ ap (map (entry keys.label)) q)
         ∙ merged-none (row_clock window_width) s.words s.words' (dots_of s.tombstone) (dots_of s.tombstone') in
         let zero : length dots ≡ 0 = ap (λ (es : List Entry). length (map entry_dot es)) none in
         omega arith
 
     record Found : Type 0 where
-      within : LabelWithin spot.n spot.len a b
-      is-label : label_in spot.n spot.len a b ≡ keys.label
+      within : LabelWithin n spot.len a b
+      is-label : label_in n spot.len a b ≡ keys.label
 
     found : (ds es : List Dot) → keys.first.dots ≡ ds → keys.second.dots ≡ es → Found
     unfolding label_in
     found (d ∷ ds) es p q =
-        let w = some-keys spot.n spot.len keys.name keys.label keys.named keys.sized a keys.first d ds p in
+        let w = some-keys n spot.len keys.name keys.label keys.named keys.sized a keys.first d ds p in
         let h = w.0 in
         record {
           within = record { in_first = λ z. omega arith; in_second = λ z. absurd (omega arith) };
           is-label = rw (ne_eqb (length a) 0 (λ z. omega arith)) w.1;
         }
     found [] (e ∷ es) p q =
-        let none = no_keys spot.n spot.len keys.name keys.label keys.named keys.sized a keys.first p in
-        let w = some-keys spot.n spot.len keys.name keys.label keys.named keys.sized b keys.second e es q in
+        let none = no_keys n spot.len keys.name keys.label keys.named keys.sized a keys.first p in
+        let w = some-keys n spot.len keys.name keys.label keys.named keys.sized b keys.second e es q in
         let h = w.0 in
         record {
           within = record { in_first = λ z. absurd (z none); in_second = λ z. omega arith };
@@ -101,10 +101,10 @@ module _ (spot : Spot) (s : Sides) (a b : Bytes) (room : ℕ) (can : CanPut spot
         }
     found [] [] p q = absurd (no_dots_lem p q)
 
-    pub label-within : LabelWithin spot.n spot.len a b
+    pub label-within : LabelWithin n spot.len a b
     label-within = (found keys.first.dots keys.second.dots refl refl).within
 
-    pub label_is : label_in spot.n spot.len a b ≡ keys.label
+    pub label_is : label_in n spot.len a b ≡ keys.label
     label_is = (found keys.first.dots keys.second.dots refl refl).is-label
 
 -- ---- the line
@@ -118,23 +118,23 @@ head-with l count d ds e =
 length-head : (l : Label) (count : ℕ) → length (line_head l count) ≡ length l + line_fixed
 length-head l count = rw (length-append, length-big_endian) (omega arith)
 
-module _ (spot : Spot) (s : Sides) (a b out : Bytes) (can : CanPut spot s a b (length out)) (out' : Bytes) (count : ℕ) (put : DotsPut spot s a b out out' count) where
+module _ (n : ℕ) (spot : Spot) (s : Sides) (a b out : Bytes) (can : CanPut n spot s a b (length out)) (out' : Bytes) (count : ℕ) (put : DotsPut n spot s a b out out' count) where
   abbrev bytes : Bytes
-  bytes = listing_bytes (merged_key_lines spot.n s a b)
+  bytes = listing_bytes (merged_key_lines n s a b)
 
   abbrev kept : List Dot
-  kept = merged_dots spot.n s a b
+  kept = merged_dots n s a b
 
   abbrev from : ℕ
   from = spot.at + spot.len + line_fixed
 
-  pub none-put : count ≡ 0 → LinePut spot s a b out out' 0
+  pub none-put : count ≡ 0 → LinePut n spot s a b out out' 0
   unfolding listing_bytes dots_bytes
   none-put z = go kept refl
     where
-      go : (ds : List Dot) → merged_dots spot.n s a b ≡ ds → LinePut spot s a b out out' 0
+      go : (ds : List Dot) → merged_dots n s a b ≡ ds → LinePut n spot s a b out out' 0
       go [] q =
-          let lines : merged_key_lines spot.n s a b ≡ [] = label-lines spot.n spot.len s a b can.label-keys ∙ ap (line_if can.label-keys.label) q in
+          let lines : merged_key_lines n s a b ≡ [] = label-lines n spot.len s a b can.label-keys ∙ ap (line_if can.label-keys.label) q in
           let same : out' ≡ out = put.1 ∙ ap (λ (ds : List Dot). put_unless spot.dry out (spot.at + spot.len + line_fixed) (dots_bytes ds)) q ∙ sym (unless_nothing spot.dry out (spot.at + spot.len + line_fixed)) in
           rw lines (refl, same ∙ unless_nothing spot.dry out spot.at)
       go (d ∷ ds) q = absurd (omega (arith, put.0, ap length q))
@@ -143,21 +143,21 @@ module _ (spot : Spot) (s : Sides) (a b out : Bytes) (can : CanPut spot s a b (l
     some-kept : 0 < length kept
     some-kept = go (length kept) refl
       where
-        go : (m : ℕ) → length (merged_dots spot.n s a b) ≡ m → 0 < length (merged_dots spot.n s a b)
+        go : (m : ℕ) → length (merged_dots n s a b) ≡ m → 0 < length (merged_dots n s a b)
         go zero e = absurd (some (put.0 ∙ e))
         go (suc m) e = omega arith
 
     pub size_is : line_fixed + spot.len + dot_size * count ≡ length bytes
-    size_is = omega (arith, line-bytes spot.n spot.len s a b can.label-keys some-kept, put.0)
+    size_is = omega (arith, line-bytes n spot.len s a b can.label-keys some-kept, put.0)
 
-    pub dry_put : spot.dry ≡ true → LinePut spot s a b out out' (line_fixed + spot.len + dot_size * count)
+    pub dry_put : spot.dry ≡ true → LinePut n spot s a b out out' (line_fixed + spot.len + dot_size * count)
     dry_put t = (size_is, put.1 ∙ rw t)
 
-    pub within : LabelWithin spot.n spot.len a b
-    within = label-within spot s a b (length out) can some-kept
+    pub within : LabelWithin n spot.len a b
+    within = label-within n spot s a b (length out) can some-kept
 
     pub few : count < 256 ^ 2
-    few = omega (arith, dots-low spot s a b (length out) can, put.0)
+    few = omega (arith, dots-low n spot s a b (length out) can, put.0)
 
     -- room for what stands before the dots
     module _ (wet : spot.dry ≡ false) where
@@ -172,29 +172,29 @@ module _ (spot : Spot) (s : Sides) (a b out : Bytes) (can : CanPut spot s a b (l
       pub at-within : spot.at ≤ length out'
       at-within = omega (arith, all_room, same_length)
 
-      module _ (label : Label) (read : label ≡ label_in spot.n spot.len a b) where
+      module _ (label : Label) (read : label ≡ label_in n spot.len a b) where
         label-long : length label ≡ spot.len
-        label-long = ap length (read ∙ label_is spot s a b (length out) can some-kept) ∙ can.label-keys.sized
+        label-long = ap length (read ∙ label_is n spot s a b (length out) can some-kept) ∙ can.label-keys.sized
 
         pub head-fits : (length label ≤ label_most) × (count < 256 ^ 2) × (length label + line_fixed ≤ length (take (length out' - spot.at) (drop spot.at out')))
-        head-fits = (omega (arith, label-long, label-short spot s a b (length out) can), few, rw (rest_part, length-drop) (omega (arith, label-long, all_room, same_length)))
+        head-fits = (omega (arith, label-long, label-short n spot s a b (length out) can), few, rw (rest_part, length-drop) (omega (arith, label-long, all_room, same_length)))
 
         pub wet_put : (part last : Bytes) → part ≡ put_at (take (length out' - spot.at) (drop spot.at out')) 0 (line_head label count)
-            → last ≡ take spot.at out' ++ (part ++ drop (length out' - spot.at) (drop spot.at out')) → LinePut spot s a b out last (line_fixed + spot.len + dot_size * count)
+            → last ≡ take spot.at out' ++ (part ++ drop (length out' - spot.at) (drop spot.at out')) → LinePut n spot s a b out last (line_fixed + spot.len + dot_size * count)
         wet_put part last e f = (size_is, whole ∙ ap (put_at out spot.at) (line-is kept refl) ∙ sym (rw wet))
           where
-            dots-put : out' ≡ put_at out (spot.at + spot.len + line_fixed) (dots_bytes (merged_dots spot.n s a b))
+            dots-put : out' ≡ put_at out (spot.at + spot.len + line_fixed) (dots_bytes (merged_dots n s a b))
             dots-put = put.1 ∙ rw wet
 
-            whole : last ≡ put_at out spot.at (line_head label count ++ dots_bytes (merged_dots spot.n s a b))
+            whole : last ≡ put_at out spot.at (line_head label count ++ dots_bytes (merged_dots n s a b))
             whole =
-                put-before out out' last (line_head label count) (dots_bytes (merged_dots spot.n s a b)) spot.at (spot.at + spot.len + line_fixed) dots-put
+                put-before out out' last (line_head label count) (dots_bytes (merged_dots n s a b)) spot.at (spot.at + spot.len + line_fixed) dots-put
                 (omega (arith, length-head label count, label-long)) (f ∙ put-part out' part (line_head label count) spot.at e) (omega (arith, all_room))
 
-            line-is : (ds : List Dot) → merged_dots spot.n s a b ≡ ds → line_head label count ++ dots_bytes (merged_dots spot.n s a b) ≡ listing_bytes (merged_key_lines spot.n s a b)
+            line-is : (ds : List Dot) → merged_dots n s a b ≡ ds → line_head label count ++ dots_bytes (merged_dots n s a b) ≡ listing_bytes (merged_key_lines n s a b)
             line-is [] q = absurd (omega (arith, some-kept, ap length q))
             line-is (d ∷ ds) q =
-                ap₂ (λ (m : Label) (es : List Dot). line_head m count ++ dots_bytes es) (read ∙ label_is spot s a b (length out) can some-kept) q
+                ap₂ (λ (m : Label) (es : List Dot). line_head m count ++ dots_bytes es) (read ∙ label_is n spot s a b (length out) can some-kept) q
                 ∙ head-with can.label-keys.label count d ds (put.0 ∙ ap length q)
                 ∙ ap (λ (es : List Dot). listing_bytes (line_if can.label-keys.label es)) (sym q)
-                ∙ ap listing_bytes (sym (label-lines spot.n spot.len s a b can.label-keys))
+                ∙ ap listing_bytes (sym (label-lines n spot.len s a b can.label-keys))

@@ -22,13 +22,12 @@ abbrev pub merged_dots : ℕ → Sides → Bytes → Bytes → List Dot
 merged_dots n s a b = map entry_dot (merged_keys n s a b)
 
 -- what putting the line of a label counts on: its keys in both stores, and room for the line, unless the run is dry
-pub record CanPut (spot : Spot) (s : Sides) (a b : Bytes) (room : ℕ) : Type 0 where
-  pub short-name : spot.n ≤ name_most
-  pub label-keys : SameLabel spot.n spot.len a b
+pub record CanPut (n : ℕ) (spot : Spot) (s : Sides) (a b : Bytes) (room : ℕ) : Type 0 where
+  pub label-keys : SameLabel n spot.len a b
   pub first_short : length a ≤ store_most
   pub second_short : length b ≤ store_most
   pub place-low : spot.at ≤ 2 * store_most
-  pub has_room : spot.dry ≡ false → spot.at + length (listing_bytes (merged_key_lines spot.n s a b)) ≤ room
+  pub has_room : spot.dry ≡ false → spot.at + length (listing_bytes (merged_key_lines n s a b)) ≤ room
 
 -- the label of keys of which the first store or the second has some
 unfoldable pub label_in : ℕ → ℕ → Bytes → Bytes → Label
@@ -40,16 +39,16 @@ pub record LabelWithin (n len : ℕ) (a b : Bytes) : Type 0 where
   pub in_second : length a ≡ 0 → n + prefix_fixed + len ≤ length b
 
 -- its dots are put past its head, in out, which becomes out'; r is how many they are
-abbrev pub DotsPut : Spot → Sides → Bytes → Bytes → Bytes → Bytes → ℕ → Type 0
-DotsPut spot s a b out out' r =
-    (r ≡ length (merged_dots spot.n s a b))
-    × (out' ≡ put_unless spot.dry out (spot.at + spot.len + line_fixed) (dots_bytes (merged_dots spot.n s a b)))
+abbrev pub DotsPut : ℕ → Spot → Sides → Bytes → Bytes → Bytes → Bytes → ℕ → Type 0
+DotsPut n spot s a b out out' r =
+    (r ≡ length (merged_dots n s a b))
+    × (out' ≡ put_unless spot.dry out (spot.at + spot.len + line_fixed) (dots_bytes (merged_dots n s a b)))
 
 -- it is put; r is how many bytes it takes
-abbrev pub LinePut : Spot → Sides → Bytes → Bytes → Bytes → Bytes → ℕ → Type 0
-LinePut spot s a b out out' r =
-    (r ≡ length (listing_bytes (merged_key_lines spot.n s a b)))
-    × (out' ≡ put_unless spot.dry out spot.at (listing_bytes (merged_key_lines spot.n s a b)))
+abbrev pub LinePut : ℕ → Spot → Sides → Bytes → Bytes → Bytes → Bytes → ℕ → Type 0
+LinePut n spot s a b out out' r =
+    (r ≡ length (listing_bytes (merged_key_lines n s a b)))
+    × (out' ≡ put_unless spot.dry out spot.at (listing_bytes (merged_key_lines n s a b)))
 
 -- ---- all lines
 

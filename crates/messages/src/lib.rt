@@ -30,6 +30,7 @@ pub enum MessageKind {
 }
 
 // What a message says: where name, label and context stand, and an add's dot; what a remove lacks is 0.
+// Not an enum with fields: `read_of` (specs/Read) and ptl_read_message of the C interface have all fields of every message.
 #[derive(Clone, Copy)]
 pub struct MessageFields {
     pub kind: MessageKind,
@@ -76,13 +77,11 @@ pub fn counted_at(s: &[u8], at: usize) -> wire::Span
     ensures { (result ≡ counted_at s.now at) × (result.at ≡ at + 1) × (result.len < 256) }
 {
     let len = wire::size_at(s, at);
-    wire::Span {
-        at: at + 1,
-        len: len,
-    }
+    wire::Span { at: at + 1, len }
 }
 
-// The dots whose number stands at a place. Not one function with the field above: other crates name both, each with its bound.
+// The dots whose number stands at a place. One function with the field above would be no plainer: with the size of what is counted as a
+// parameter, its clause would name neither `counted_at` nor `dots_counted_at`, of which the layouts in specs/Read speak.
 pub fn dots_counted_at(s: &[u8], at: usize) -> wire::Span
     requires { at ≤ 1024 }
     ensures { (result ≡ dots_counted_at s.now at) × (result.at ≡ at + 1) × (result.len ≤ 2295) }
@@ -148,6 +147,7 @@ pub fn mark_ok(s: &[u8]) -> bool
     (5 <= s.len()) & ((first == b'P') & ((second == b'T') & (third == b'L')))
 }
 
+// Not one function with image's: the versions of messages and of images are two numbers, though both are 1.
 fn version_ok(s: &[u8]) -> bool
     ensures { result ≡ version_ok s.now }
 {
@@ -242,7 +242,7 @@ pub fn put_counted(out: &mut [u8], at: usize, count: u8, field: &[u8]) -> usize
     moves::put(out, next, field)
 }
 
-// Puts mark, version 1, kind and set name at the front.
+// Puts mark, version 1, kind and set name at the front. The kind is a byte, since an image gives its own, which no message has.
 pub fn put_front(out: &mut [u8], kind: u8, name: &[u8]) -> usize
     requires { (length name.now ≤ name_most) × (length name.now + front_fixed ≤ length out.old) }
     ensures { FrontPut kind name.now out.old out.new result }
@@ -274,7 +274,7 @@ pub fn write_add(name: &[u8], label: &[u8], dot: dots::Dot, context: &[u8], out:
     requires { AddFits name.now label.now context.now (length out.old) }
     ensures { Wrote name.now (add label.now dot (dots_of context.now)) out.old out.new result }
 {
-    let label_at = put_front(out, b'a', name);
+    let label_at = put_front(out, u8::from(MessageKind::Add), name);
     let dot_at = put_counted(out, label_at, label.len() as u8, label);
     let context_at = put_dot(out, dot_at, dot);
     put_context(out, context_at, context)
@@ -285,6 +285,6 @@ pub fn write_remove(name: &[u8], context: &[u8], out: &mut [u8]) -> usize
     requires { RemoveFits name.now context.now (length out.old) }
     ensures { Wrote name.now (remove (dots_of context.now)) out.old out.new result }
 {
-    let context_at = put_front(out, b'r', name);
+    let context_at = put_front(out, u8::from(MessageKind::Remove), name);
     put_context(out, context_at, context)
 }

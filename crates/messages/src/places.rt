@@ -6,7 +6,8 @@ ghost use Rattle.messages.specs.Layouts.{laid, Small};
 
 use crate::MessageKind;
 
-// Where the fields of a message are: name, label, the own dot's place, the context.
+// Where the fields of a message are: name, label, the own dot's place, the context; what a remove lacks is 0.
+// Not an enum with fields: the definition `remove_layout` (specs/Read) has the zeros.
 #[derive(Clone, Copy)]
 pub struct Places {
     pub kind: MessageKind,

@@ -62,10 +62,13 @@ fn add_answer(
     add_early(state, label, context, lent.damage)?;
     let dot = next_dot(state);
     let short = lent.out < state.name.len + label.len() + context.len() + messages::ADD_FIXED;
-    steps::add_late(state, lent.store, label, context, dot, short)
+    let crowded = steps::crowded(state, lent.store, label);
+    steps::add_late(state, context, dot, crowded, short)
 }
 
 // Writes the add message, and applies the add. The label's keys do not stand in the first `low` bytes.
+// `intake::take_add` ends alike: one function for both, with a state by value in and out, was tried and made the stack 9 KB deep, past the 8 KiB that a test
+// holds each call below (docs/DECISIONS.md, rows "parts of a state" and "stack").
 fn add_done(
     state: calls::State,
     store: &mut [u8],
@@ -87,12 +90,12 @@ fn add_done(
     calls::Outcome {
         answer: dots::Answer::Done,
         state: calls::State {
-            clock: clock::Clock { words: words },
-            tombstone: tombstone,
-            used: used,
+            clock: clock::Clock { words },
+            tombstone,
+            used,
             ..state
         },
-        written: written,
+        written,
     }
 }
 
@@ -114,8 +117,8 @@ pub fn own_add(
     };
     if let Err(answer) = add_answer(&state, label, context, lent) {
         return calls::Outcome {
-            answer: answer,
-            state: state,
+            answer,
+            state,
             written: 0,
         };
     }
@@ -152,7 +155,7 @@ fn remove_answer(
     steps::remove_late(state, context, short)
 }
 
-// Writes the remove message, and applies the context.
+// Writes the remove message, and applies the context. `intake::take_remove` ends alike, for the reason at `add_done`.
 fn remove_done(state: calls::State, context: &[u8], out: &mut [u8]) -> calls::Outcome
     requires { MayWriteRemove state context.now (length out.old) }
     ensures { Removed state context.now out.old out.new result }
@@ -165,11 +168,11 @@ fn remove_done(state: calls::State, context: &[u8], out: &mut [u8]) -> calls::Ou
     calls::Outcome {
         answer: dots::Answer::Done,
         state: calls::State {
-            clock: clock::Clock { words: words },
-            tombstone: tombstone,
+            clock: clock::Clock { words },
+            tombstone,
             ..state
         },
-        written: written,
+        written,
     }
 }
 
@@ -189,8 +192,8 @@ pub fn own_remove(
     };
     if let Err(answer) = remove_answer(&state, context, lent) {
         return calls::Outcome {
-            answer: answer,
-            state: state,
+            answer,
+            state,
             written: 0,
         };
     }

@@ -6,6 +6,7 @@ ghost use Rattle.std.specs.Prelude.{◌≡◌};
 ghost use Rattle.reader.specs.Reading.{key_end};
 
 // "A reader holds the lent store and its place in it": the used part, and where the key that comes next begins.
+// A struct, and not the iterator `Keys` of `store`: document 01 asks for this form.
 #[derive(Clone, Copy)]
 struct Reader<'a> {
     keys: &'a [u8],

@@ -25,6 +25,9 @@ use Rattle.merge.specs.Sides.{Sides, merged_key_lines}
 use Rattle.merge.specs.Kept.{sides_of, EndToEnd}
 use Rattle.merge.specs.Lines.{Mergeable, PutsAll}
 use Rattle.merge.proofs.BothSides.{sides_are, end_to_end_lem}
+use Rattle.std.specs.Prelude.{Result, Ok, Err}
+use Rattle.steps.specs.Tests.{passed}
+use Rattle.steps.proofs.Passed.{passed-is}
 use Rattle.calls.specs.declared.State.{State}
 use Rattle.calls.specs.declared.SetName.{SetName}
 use Rattle.calls.specs.declared.Listed.{Listed}
@@ -39,15 +42,15 @@ use Rattle.reads.proofs.ReadCalls.{name_most_lem, name-fits, name-size, tombston
 
 -- refusals 1 and 7, as the code tests them
 module _ (damage : Bool) (name given : SetName) where
-  pub refused-damaged : damage ≡ true → Damaged ≡ first_of (set_refusals damage name given)
-  refused-damaged d = rw d
+  pub refused-damaged : damage ≡ true → Err Damaged ≡ passed (first_of (set_refusals damage name given))
+  refused-damaged d = rw d refl
 
   module _ (f : damage ≡ false) (o : Bool) (e : o ≡ not (compare_is_eq (compare_bytes (take given.len given.bytes) (take name.len name.bytes)))) where
-    pub refused-other : o ≡ true → OtherSet ≡ first_of (set_refusals damage name given)
-    refused-other t = rw (f, ← e, t)
+    pub refused-other : o ≡ true → Err OtherSet ≡ passed (first_of (set_refusals damage name given))
+    refused-other t = rw (f, ← e, t) refl
 
-    pub not_refused : o ≡ false → Done ≡ first_of (set_refusals damage name given)
-    not_refused t = rw (f, ← e, t)
+    pub not_refused : o ≡ false → Ok (tt {0}) ≡ passed (first_of (set_refusals damage name given))
+    not_refused t = rw (f, ← e, t) refl
 
 -- tombstones and clocks of two states
 abbrev pub sides_in : State → State → Sides
@@ -77,8 +80,8 @@ module _ (st : State) (store : Bytes) (st' : State) (store' : Bytes) where
     pub names-fit : Sized st → Sized st' → (p || q) ≡ false → (st.name.len ≤ length st.name.bytes) × (st'.name.len ≤ length st'.name.bytes)
     names-fit sized sized' n = (name-fits st store sized (sym e ∙ search neither), name-fits st' store' sized' (sym f ∙ search neither))
 
-    pub sides-answered : (answer : Answer) → answer ≡ first_of (set_refusals (p || q) st.name st'.name) → answer ≡ first_of sides_refusals
-    sides-answered answer a = a ∙ rw (e, f)
+    pub sides-answered : (r : Result Unit Answer) → r ≡ passed (first_of (set_refusals (p || q) st.name st'.name)) → r ≡ passed (first_of sides_refusals)
+    sides-answered r a = a ∙ rw (e, f)
 
   module _ (answer : Answer) (answered : answer ≡ first_of (sides_refusals)) where
     undone : (answer ≡ Done → ⊥) → number_of answer ≡ 0 → ⊥
@@ -96,12 +99,12 @@ module _ (st : State) (store : Bytes) (st' : State) (store' : Bytes) where
         let whole : answer ≡ all = stops (sides_refusals) answer (number_of answer) answered refl short (undone some) in
         rw (ne_eqb (number_of all) 0 (λ z. undone some (ap number_of whole ∙ z))) (record { answered = whole; written_is = refl; labels_are = refl; out-is = refl })
 
-    -- none holds: two undamaged controllers of one set
-    pub may-merge : answer ≡ Done → (damaged st store ≡ false) × (damaged st' store' ≡ false) × (name_of st' ≡ name_of st)
-    may-merge z =
-        let none = none-holds (sides_refusals) (omega arith, (omega arith, tt)) (ap number_of (sym answered ∙ z)) in
-        let damage : (damaged st store || damaged st' store') ≡ false = none.0 in
-        (search neither, search neither, bytes_lawful.tie (name_of st') (name_of st) (tie-is _ (pass (not-false (compare_is_eq (compare_bytes (name_of st') (name_of st))) none.1.0))))
+  -- none holds: two undamaged controllers of one set
+  pub may-merge : (r : Result Unit Answer) (u : Unit {0}) → r ≡ passed (first_of sides_refusals) → r ≡ Ok u → (damaged st store ≡ false) × (damaged st' store' ≡ false) × (name_of st' ≡ name_of st)
+  may-merge r u a z =
+      let none = none-holds (sides_refusals) (omega arith, (omega arith, tt)) (passed-is (first_of sides_refusals) u (sym z ∙ a)) in
+      let damage : (damaged st store || damaged st' store') ≡ false = none.0 in
+      (search neither, search neither, bytes_lawful.tie (name_of st') (name_of st) (tie-is _ (pass (not-false (compare_is_eq (compare_bytes (name_of st') (name_of st))) none.1.0))))
 
   -- ---- the merge of two undamaged controllers of one set
 

@@ -1,6 +1,6 @@
 -- A page: its refusals, and what it gives of the lines put out. Assumes nothing.
 use Prim.Native.Nat.{ℕ, ◌-◌}
-use mathlib.Core.Path.{◌≡◌, refl, sym, ap, ◌∙◌}
+use mathlib.Core.Path.{◌≡◌, refl, sym, ◌∙◌}
 use mathlib.Core.Bool.{Bool, true, false, not, cond, ◌&&◌, true≢false}
 use mathlib.Core.List.{List, [], ◌∷◌}
 use native.Mathlib.Omega.{arith}
@@ -14,6 +14,9 @@ use Rattle.dots.specs.Answer.{number_of, first_of}
 use Rattle.dots.specs.declared.Answer.{Answer}
 use Rattle.dots.specs.declared.Answer.TheVariants.{Done, Damaged, BadName, OutputShort}
 use Rattle.dots.specs.Entries.{Line}
+use Rattle.std.specs.Prelude.{Result, Ok}
+use Rattle.steps.specs.Tests.{passed}
+use Rattle.steps.proofs.Passed.{passed-is}
 use Rattle.listing.specs.declared.LinesPut.{LinesPut}
 use Rattle.listing.specs.Listing.{line_size, listing_bytes, PutsLines, wanted_lines, PutsWanted}
 use Rattle.replica.specs.Machine.{listing}
@@ -30,18 +33,18 @@ use Rattle.reads.proofs.PageStarts.{start-stored, start-lines}
 
 -- ---- refusals 1 and 5
 
-module _ (st : State) (store start : Bytes) (damage bad : Bool) (d : damage ≡ damaged st store) (b : bad ≡ bad_start start) (answer : Answer) (a : answer ≡ first_of ((damage, Damaged) ∷ (bad, BadName) ∷ [])) where
-  pub may-page : answer ≡ Done → (damaged st store ≡ false) × (bad_start start ≡ false)
-  may-page z = by_tests damage bad d b (ap number_of (sym a ∙ z))
+module _ (st : State) (store start : Bytes) (damage bad : Bool) (d : damage ≡ damaged st store) (b : bad ≡ bad_start start) where
+  pub may-page : (q : Result Unit Answer) (u : Unit {0}) → q ≡ passed (first_of ((damage, Damaged) ∷ (bad, BadName) ∷ [])) → q ≡ Ok u → (damaged st store ≡ false) × (bad_start start ≡ false)
+  may-page q u a z = by_tests damage bad d b (passed-is (first_of ((damage, Damaged) ∷ (bad, BadName) ∷ [])) u (sym z ∙ a))
     where
       by_tests : (p q : Bool) → p ≡ damaged st store → q ≡ bad_start start → number_of (cond p Damaged (cond q BadName Done)) ≡ 0 → (damaged st store ≡ false) × (bad_start start ≡ false)
       by_tests false false e f z = (sym e, sym f)
       by_tests false true e f z = let none : ⊥ = omega arith in absurd none
       by_tests true q e f z = let none : ⊥ = omega arith in absurd none
 
-  pub no_page : (out : Bytes) → (answer ≡ Done → ⊥) → PagesAfter st store start out out (record { answer = answer; written = 0; labels = 0; more = false })
+  pub no_page : (answer : Answer) → answer ≡ first_of ((damage, Damaged) ∷ (bad, BadName) ∷ []) → (out : Bytes) → (answer ≡ Done → ⊥) → PagesAfter st store start out out (record { answer = answer; written = 0; labels = 0; more = false })
   unfolding page_result more_follow
-  no_page out z = by_tests damage bad d b a
+  no_page answer a out z = by_tests damage bad d b a
     where
       by_tests : (p q : Bool) → p ≡ damaged st store → q ≡ bad_start start → answer ≡ cond p Damaged (cond q BadName Done)
           → PagesAfter st store start out out (record { answer = answer; written = 0; labels = 0; more = false })

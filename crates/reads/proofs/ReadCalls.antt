@@ -33,6 +33,9 @@ use Rattle.store.proofs.Inserted.{while_within}
 use Rattle.store.proofs.RoundTrip.{UsedEntries, keys-fit, entries-written}
 use Rattle.store.proofs.Stretches.{stretch-start, stretch-end, stretch-bytes}
 use Rattle.replica.specs.Machine.{listing, found}
+use Rattle.std.specs.Prelude.{Result, Ok}
+use Rattle.steps.specs.Tests.{passed}
+use Rattle.steps.proofs.Passed.{passed-is}
 use Rattle.calls.specs.declared.State.{State}
 use Rattle.calls.specs.declared.Listed.{Listed}
 use Rattle.calls.specs.State.{clock_model, name_of, tombstone_dots, used_part, entries, view, Sized}
@@ -175,9 +178,9 @@ part_of_store store r name label used h block offset bytes =
     record { block = block; offset = offset; bytes = bytes ∙ part_of_front store.now used (stretch_start name label front) (stretch_end name label front) fits }
 
 -- the refusals of a lookup as the code tests them
-pub look_is : (st : State) (store label : Bytes) (damage labelled : Bool) (answer : Answer) → damage ≡ damaged st store → labelled ≡ label_ok label
-    → answer ≡ first_of ((damage, Damaged) ∷ (not labelled, BadName) ∷ []) → answer ≡ first_of (lookup_refusals st store label)
-look_is st store label damage labelled answer d l a = rw (d, l) at a
+pub look_is : (st : State) (store label : Bytes) (damage labelled : Bool) (q : Result Unit Answer) → damage ≡ damaged st store → labelled ≡ label_ok label
+    → q ≡ passed (first_of ((damage, Damaged) ∷ (not labelled, BadName) ∷ [])) → q ≡ passed (first_of (lookup_refusals st store label))
+look_is st store label damage labelled q d l a = rw (d, l) at a
 
 -- none holds: the tests of a lookup that passes
 tested : (damage labelled : Bool) → number_of (cond damage Damaged (cond (not labelled) BadName Done)) ≡ 0 → (damage ≡ false) × (labelled ≡ true)
@@ -185,8 +188,8 @@ tested false true e = (refl, refl)
 tested false false e = let none : ⊥ = omega arith in absurd none
 tested true labelled e = let none : ⊥ = omega arith in absurd none
 
-pub may_look : (st : State) (store label : Bytes) (answer : Answer) → answer ≡ first_of (lookup_refusals st store label) → answer ≡ Done → (damaged st store ≡ false) × (label_ok label ≡ true)
-may_look st store label answer a z = tested (damaged st store) (label_ok label) (ap number_of (sym a ∙ z))
+pub may_look : (st : State) (store label : Bytes) (q : Result Unit Answer) (u : Unit {0}) → q ≡ passed (first_of (lookup_refusals st store label)) → q ≡ Ok u → (damaged st store ≡ false) × (label_ok label ≡ true)
+may_look st store label q u a z = tested (damaged st store) (label_ok label) (passed-is (first_of (lookup_refusals st store label)) u (sym z ∙ a))
 
 pub not_looked_lem : (st : State) (store r : Bor Bytes) (label : Bytes) (answer : Answer) (number : ℕ) → answer ≡ first_of (lookup_refusals st store.now label) → number ≡ number_of answer
     → (answer ≡ Done → ⊥) → IsPart store 0 0 r → LooksUp st store label number false r

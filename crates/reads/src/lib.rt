@@ -8,6 +8,7 @@ ghost use Rattle.listing.specs.Listing.{PutsWanted};
 ghost use Rattle.calls.specs.Refusals.{bad_start};
 ghost use Rattle.calls.specs.Calls.{list_result, merge_result};
 ghost use Rattle.calls.specs.Promise.{Lists, PagesAfter, LooksUp};
+ghost use Rattle.steps.specs.Tests.{passed};
 ghost use Rattle.reads.specs.Reads.{Readable, lines_in, put_answer, listed_of, early_refusals, set_refusals, Startable, IsStart, paged_of, LiveTestable, any_live};
 
 // ---- lines put out
@@ -33,7 +34,8 @@ fn put_used(
     listing::put_wanted(n, keys, dead, all, out)
 }
 
-// Refusal 13, where lines are left and none was put, else 0.
+// Refusal 13, where lines are left and none was put, else done: an answer and no result, as it goes into `Listed` and `Paged`, which hold one beside
+// the counts.
 fn put_answer(put: listing::LinesPut) -> dots::Answer
     ensures { result ≡ put_answer put }
 {
@@ -71,11 +73,11 @@ pub fn list(state: calls::State, store: &[u8], out: &mut [u8]) -> calls::Listed
     listed(put_used(state.name.len, keys, &state.tombstone, true, out))
 }
 
-// The first of the refusals 1 and 5 that holds, else done.
-fn early_refusal(damage: bool, bad: bool) -> dots::Answer
-    ensures { result ≡ first_of (early_refusals damage bad) }
+// The first of the refusals 1 and 5 that holds.
+fn early_refusal(damage: bool, bad: bool) -> Result<(), dots::Answer>
+    ensures { result ≡ passed (first_of (early_refusals damage bad)) }
 {
-    dots::first_of(&[
+    steps::refused(&[
         (damage, dots::Answer::Damaged),
         (bad, dots::Answer::BadName),
     ])
@@ -122,10 +124,9 @@ pub fn page(state: calls::State, store: &[u8], start: &[u8], out: &mut [u8]) -> 
     ensures { PagesAfter state store.now start.now out.old out.new result }
 {
     let judged = judging::judge(&state, store, start);
-    let refusal = early_refusal(judged.is_none(), start_bad(start));
-    if refusal != dots::Answer::Done {
+    if let Err(answer) = early_refusal(judged.is_none(), start_bad(start)) {
         return calls::Paged {
-            answer: refusal,
+            answer,
             written: 0,
             labels: 0,
             more: false,
@@ -140,17 +141,21 @@ pub fn page(state: calls::State, store: &[u8], start: &[u8], out: &mut [u8]) -> 
 // ---- merged read
 
 // The first of the refusals 1 and 7 that holds, by whether a state is damaged and by the set names of both.
-fn merge_refusal(damage: bool, name: &calls::SetName, given: &calls::SetName) -> dots::Answer
+fn merge_refusal(
+    damage: bool,
+    name: &calls::SetName,
+    given: &calls::SetName,
+) -> Result<(), dots::Answer>
     requires { damage ≡ false → (name.now.len ≤ length name.now.bytes) × (given.now.len ≤ length given.now.bytes) }
-    ensures { result ≡ first_of (set_refusals damage name.now given.now) }
+    ensures { result ≡ passed (first_of (set_refusals damage name.now given.now)) }
 {
     if damage {
-        return dots::Answer::Damaged;
+        return Err(dots::Answer::Damaged);
     }
-    if steps::other_set(name, &given.bytes[..given.len]) {
-        return dots::Answer::OtherSet;
+    if steps::other_set(&name.bytes[..name.len], &given.bytes[..given.len]) {
+        return Err(dots::Answer::OtherSet);
     }
-    dots::Answer::Done
+    Ok(())
 }
 
 // Lists the labels of two controllers as one. Of both states only the dots of the tombstones are copied, end to end.
@@ -165,10 +170,10 @@ pub fn merge<'a>(
 {
     let first_damaged = judging::damaged(&first, a);
     let second_damaged = judging::damaged(&second, b);
-    let refusal = merge_refusal(first_damaged | second_damaged, &first.name, &second.name);
-    if refusal != dots::Answer::Done {
+    let damage = first_damaged | second_damaged;
+    if let Err(answer) = merge_refusal(damage, &first.name, &second.name) {
         return calls::Listed {
-            answer: refusal,
+            answer,
             written: 0,
             labels: 0,
         };
@@ -203,8 +208,8 @@ fn any_listed(n: usize, keys: &[u8], tombstone: &calls::Tombstone) -> bool
     listing::any_live(n, keys, &tombstone.bytes[..size])
 }
 
-// Looks a label up: hands back the stretch of the lent store that holds its keys. `LooksUp` says of a refusal too what number and listed are, so they
-// are written and not returned beside the stretch.
+// Looks a label up: hands back the stretch of the lent store that holds its keys. Number and listed are written through references: `LooksUp` of calls
+// says of a refusal too what both are, and ptl_lookup hands them on as C takes them; a struct would be taken apart there at once.
 pub fn lookup<'a>(
     state: calls::State,
     store: &'a [u8],
@@ -215,10 +220,10 @@ pub fn lookup<'a>(
     ensures { LooksUp state store.entry label.now number.new listed.new result }
 {
     let judged = judging::judge(&state, store, label);
-    let refusal = early_refusal(judged.is_none(), !dots::label_ok(label));
-    *number = u8::from(refusal);
+    *number = dots::Answer::Done as u8;
     *listed = false;
-    if refusal != dots::Answer::Done {
+    if let Err(answer) = early_refusal(judged.is_none(), !dots::label_ok(label)) {
+        *number = u8::from(answer);
         return &store[0..0];
     }
     let name = &state.name.bytes[..state.name.len];

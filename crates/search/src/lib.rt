@@ -22,16 +22,19 @@ fn lower_bytes(a: &[u8], b: &[u8]) -> bool
 }
 
 // Whether a comes before b, where the first 8 bytes are the same and n is the shorter length: by words, the last of which ends at n.
+// A loop by hand: with `step_by` here and in `zero_near`, calls on stores of labels of 32 bytes took 1.1 to 1.2 times as long.
 fn lower_words(a: &[u8], b: &[u8], n: usize) -> bool
     requires { ((8 ≤ n) × (n ≡ min (length a.now) (length b.now))) × (take 8 a.now ≡ take 8 b.now) }
     ensures { result ≡ is_lt (compare_bytes a.now b.now) }
 {
-    for i in (8..n - 7).step_by(8) {
+    let mut i = 8;
+    while i + 8 <= n {
         let x = wire::number_at(a, i);
         let y = wire::number_at(b, i);
         if x != y {
             return x < y;
         }
+        i += 8;
     }
     let x = wire::number_at(a, n - 8);
     let y = wire::number_at(b, n - 8);
@@ -121,16 +124,18 @@ pub fn zero_at(s: &[u8]) -> usize
     8 + zero_words(&s[8..])
 }
 
-// The first 0 among 40 bytes from a place on, the first 8 of which have none, and 40 if the others have none.
+// The first 0 among 40 bytes from a place on, the first 8 of which have none, and 40 if the others have none. A loop by hand, as in `lower_words`.
 pub fn zero_near(s: &[u8], at: usize) -> usize
     requires { (at + 40 ≤ length s.now) × (zero_at (drop at s.now) ≡ 8 + zero_at (drop (at + 8) s.now)) }
     ensures { result ≡ min 40 (zero_at (drop at s.now)) }
 {
-    for i in (8..40).step_by(8) {
+    let mut i = 8;
+    while i < 40 {
         let marks = zero_marks(wire::low_at(s, at + i));
         if marks != 0 {
             return i + mark_place(marks);
         }
+        i += 8;
     }
     40
 }

@@ -2,7 +2,7 @@
 
 #![tactic(auto)]
 
-ghost use Rattle.std.specs.Prelude.{◌≡◌, true, ◌<◌, length};
+ghost use Rattle.std.specs.Prelude.{◌≡◌, true, ◌<◌};
 ghost use Rattle.wire.specs.Lists.{member};
 ghost use Rattle.dots.specs.Dots.{compare_dots, ascending_dots};
 ghost use Rattle.dots.specs.Wire.{dots_of};
@@ -26,7 +26,6 @@ fn slot_of(dot: dots::Dot) -> usize
 
 // Sets the slots of all dots, nine bytes each.
 pub fn fill_slots(dots: &[u8], slots: &mut Slots)
-    requires { length slots.old ≡ slot_count }
     ensures { Slotted (dots_of dots.now) slots.new }
 {
     for dot in dots::dots_in(dots) {
@@ -51,6 +50,7 @@ impl<'a> SlottedDots<'a> {
         if self.slots[slot_of(dot)] == 0 {
             return false;
         }
-        contexts::holds_dot(self.dots, dot)
+        let ascending = contexts::AscendingDots { dots: self.dots };
+        ascending.holds(dot)
     }
 }

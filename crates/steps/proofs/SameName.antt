@@ -1,11 +1,11 @@
 -- Refusal 7: two names are one if one begins with the other and is as long. Assumes nothing.
-use Prim.Native.Nat.{ℕ, ◌≤◌}
+use Prim.Native.Nat.{ℕ}
 use mathlib.Core.Path.{◌≡◌, refl, sym, ap, subst, ◌∙◌}
 use mathlib.Core.Bool.{Bool, true, not, ◌&&◌}
 use mathlib.Core.List.{[], ◌++◌, append-nil}
 use lib.Dec.{compare_is_eq, eqb}
-use lib.ListN.{length, take, drop}
-use lib.Seq.{length-take-le, drop-length}
+use lib.ListN.{length, drop}
+use lib.Seq.{drop-length}
 use borrow.Author.Tests.{eqb-true, eq-eqb}
 use Rattle.wire.specs.Bytes.{Bytes, starts_with, compare_bytes}
 use Rattle.wire.proofs.Tests.{both_left, both_right, both_ways, pass}
@@ -29,8 +29,6 @@ same_bytes a b = both_ways (starts_with a b && eqb (length a) (length b)) (compa
         let whole : starts_with b b ≡ true = subst (λ (t : Bytes). starts_with b t ≡ true) (append-nil b) (starts-itself b []) in
         rw (same, whole, eq-eqb (length b) (length b) refl)
 
-pub other_set_is : (name given : Bytes) (len : ℕ) (starts : Bool) → len ≤ length name → starts ≡ starts_with given (take len name)
-    → not (starts && eqb (length given) len) ≡ not (compare_is_eq (compare_bytes given (take len name)))
-other_set_is name given len starts h e =
-    let size : length (take len name) ≡ len = length-take-le len name h in
-    rw (e, ← same_bytes given (take len name), size)
+pub other_set_is : (name given : Bytes) (starts : Bool) → starts ≡ starts_with given name
+    → not (starts && eqb (length given) (length name)) ≡ not (compare_is_eq (compare_bytes given name))
+other_set_is name given starts e = rw (e, ← same_bytes given name)

@@ -2,22 +2,23 @@
 
 #![tactic(auto)]
 
-ghost use Rattle.std.specs.Prelude.{◌≡◌, true, not, ◌∷◌, ◌+◌, ◌*◌, ◌≤◌, ltb, length, take};
+ghost use Rattle.std.specs.Prelude.{◌≡◌, true, not, ◌∷◌, ◌+◌, ◌≤◌, ltb, length};
 ghost use Rattle.std.proofs.Math.Dec.{compare_is_eq};
 ghost use Rattle.wire.specs.Lists.{any, member};
 ghost use Rattle.wire.specs.Bytes.{compare_bytes};
 ghost use Rattle.dots.specs.Answer.{first_of};
-ghost use Rattle.dots.specs.Dots.{dot_of, dot_ok, compare_dots, ascending_dots, tombstone_most};
+ghost use Rattle.dots.specs.Dots.{dot_of, dot_ok, compare_dots, tombstone_most};
 ghost use Rattle.dots.specs.Wire.{dots_of};
 ghost use Rattle.clock.specs.Clock.{sees, row_at};
 ghost use Rattle.clock.specs.Row.{window_width};
-ghost use Rattle.clock.specs.Reach.{CanJoinContext, CanJoinWithDot};
-ghost use Rattle.calls.specs.State.{Sized};
+ghost use Rattle.clock.specs.Reach.{Offer, OfferWith, CanJoinContext, CanJoinWithDot};
+ghost use Rattle.keys.specs.Key.{label_key_fixed};
+ghost use Rattle.calls.specs.State.{tombstone_dots};
 ghost use Rattle.calls.specs.Refusals.{bad_context};
-ghost use Rattle.judging.specs.Judging.{state_ok};
-ghost use Rattle.steps.specs.Tests.{passed, ahead_of, joins_tombstone, held_dots, next_tombstone, with_dot, with_seen, Grows, Tombstoned, Padded, ContextFits, TombstoneIs, TombstoneTakes, Joined, MayOffer, MayStore, Stored, add_late, remove_late};
+ghost use Rattle.steps.specs.Tests.{passed, ahead_of, joins_tombstone, held_dots, next_tombstone, with_dot, with_seen, Grows, Tombstoned, Padded, ContextFits, TombstoneIs, TombstoneTakes, Joined, MayStore, Stored, add_tests, remove_late};
 
-// The lengths of the store and of the output that are lent to a call, and whether refusal 1 holds.
+// The lengths of the store and of the output that are lent to a call, and whether refusal 1 holds. A flag, since `Told` and
+// `Answers` (specs/Tests) speak of it, and refusal 1 is a row of each call's table (calls/specs/Calls) like the others.
 #[derive(Clone, Copy)]
 pub struct Lent {
     pub store: usize,
@@ -38,16 +39,18 @@ pub fn refused(rows: &[(bool, dots::Answer)]) -> Result<(), dots::Answer>
 
 // ---- refusal 7
 
-// Whether a name is another than the set's.
-pub fn other_set(name: &calls::SetName, given: &[u8]) -> bool
-    requires { name.now.len ≤ length name.now.bytes }
-    ensures { result ≡ not (compare_is_eq (compare_bytes given.now (take name.now.len name.now.bytes))) }
+// Whether a name is another than the set's. By `search::starts_with`: the loop of std's `==` is the one that was tried there and is slower.
+pub fn other_set(name: &[u8], given: &[u8]) -> bool
+    ensures { result ≡ not (compare_is_eq (compare_bytes given.now name.now)) }
 {
-    let starts = search::starts_with(given, &name.bytes[..name.len]);
-    !(starts & (given.len() == name.len))
+    let starts = search::starts_with(given, name);
+    !(starts & (given.len() == name.len()))
 }
 
 // ---- refusals 6, 8, 9 and 11
+//
+// Own actor and own base are two parameters: a state in their place is no plainer, since each test would read the base from the clock again; an own add reads it once
+// for two of these tests and for refusal 9, a message taken in for two.
 
 // The own base.
 pub fn own_base(state: &calls::State) -> u64
@@ -61,7 +64,7 @@ pub fn own_base(state: &calls::State) -> u64
 pub fn dot_ahead(own: dots::Actor, base: u64, dot: dots::Dot) -> bool
     ensures { result ≡ ahead_of own base dot }
 {
-    (dot.actor.number == own.number) & !(dot.counter.number <= base)
+    (dot.actor == own) & (base < dot.counter.number)
 }
 
 // Whether some dot is.
@@ -88,21 +91,23 @@ pub fn has_next(own: dots::Actor, base: u64, context: &[u8]) -> bool
 }
 
 // Whether the dot was seen and is not in the tombstone.
-fn joins_tombstone(words: &clock::Words, tombstone: &[u8], dot: dots::Dot) -> bool
-    requires { ascending_dots (dots_of tombstone.now) ≡ true }
-    ensures { result ≡ joins_tombstone words.now (dots_of tombstone.now) dot }
+fn joins_tombstone(
+    words: &clock::Words,
+    tombstone: contexts::AscendingDots<'_>,
+    dot: dots::Dot,
+) -> bool
+    ensures { result ≡ joins_tombstone words.now (dots_of tombstone.entry.dots.now) dot }
 {
-    let known = clock::sees(words, dot);
-    if known {
-        return !contexts::holds_dot(tombstone, dot);
-    }
-    false
+    clock::sees(words, dot) && !tombstone.holds(dot)
 }
 
 // How many dots of a context would join the tombstone.
-fn tombstone_growth(words: &clock::Words, tombstone: &[u8], context: &[u8]) -> usize
-    requires { ascending_dots (dots_of tombstone.now) ≡ true }
-    ensures { Grows words.now (dots_of tombstone.now) context.now result }
+fn tombstone_growth(
+    words: &clock::Words,
+    tombstone: contexts::AscendingDots<'_>,
+    context: &[u8],
+) -> usize
+    ensures { Grows words.now (dots_of tombstone.entry.dots.now) context.now result }
 {
     dots::dots_in(context)
         .filter(|dot| joins_tombstone(words, tombstone, *dot))
@@ -126,13 +131,15 @@ fn tombstone_full(state: &calls::State, context: &[u8]) -> bool
     if count + context.len() / dots::DOT_SIZE <= dots::TOMBSTONE_MOST {
         return false;
     }
-    let held = &state.tombstone.bytes[..count * dots::DOT_SIZE];
+    let held = contexts::AscendingDots {
+        dots: &state.tombstone.bytes[..count * dots::DOT_SIZE],
+    };
     dots::TOMBSTONE_MOST < count + tombstone_growth(&state.clock.words, held, context)
 }
 
 // The refusals 10, 11 and 13 of a remove; short says whether the output is shorter than its message.
 pub fn remove_late(state: &calls::State, context: &[u8], short: bool) -> Result<(), dots::Answer>
-    requires { (state_ok state.now ≡ true) × Sized state.now × ContextFits context.now }
+    requires { Offer window_width state.now.clock.words (dots_of context.now) × Tombstoned state.now.tombstone.bytes state.now.tombstone.count × ContextFits context.now }
     ensures { result ≡ passed (first_of (remove_late state.now (dots_of context.now) short)) }
 {
     let close = clock::near_context(&state.clock.words, context);
@@ -144,21 +151,27 @@ pub fn remove_late(state: &calls::State, context: &[u8], short: bool) -> Result<
     ])
 }
 
-// The refusals 10 to 13 of an add, for a store of so many bytes; short as above.
+// Whether a store of so many bytes has no room for the key of a label.
+pub fn crowded(state: &calls::State, size: usize, label: &[u8]) -> bool
+    requires { state.now.used + (state.now.name.len + length label.now + label_key_fixed) ≤ 18446744073709551615 }
+    ensures { result ≡ ltb size (state.now.used + (state.now.name.len + length label.now + label_key_fixed)) }
+{
+    size < state.used + (state.name.len + label.len() + keys::LABEL_KEY_FIXED)
+}
+
+// The refusals 10 to 13 of an add; crowded says whether its key has no room in the store, short as above.
 pub fn add_late(
     state: &calls::State,
-    size: usize,
-    label: &[u8],
     context: &[u8],
     dot: dots::Dot,
+    crowded: bool,
     short: bool,
 ) -> Result<(), dots::Answer>
-    requires { MayOffer state.now label.now context.now dot × Sized state.now }
-    ensures { result ≡ passed (first_of (add_late state.now size label.now dot (dots_of context.now) short)) }
+    requires { OfferWith window_width state.now.clock.words context.now dot × Tombstoned state.now.tombstone.bytes state.now.tombstone.count × ContextFits context.now }
+    ensures { result ≡ passed (first_of (add_tests state.now.clock.words (tombstone_dots state.now) dot (dots_of context.now) crowded short)) }
 {
     let close = clock::near_with_dot(&state.clock.words, context, dot);
     let seen = clock::sees(&state.clock.words, dot);
-    let crowded = size < state.used + (state.name.len + label.len() + keys::LABEL_KEY_FIXED);
     refused(&[
         (!close, dots::Answer::TooFar),
         (tombstone_full(state, context), dots::Answer::TombstoneFull),
@@ -189,7 +202,8 @@ fn tombstone_with_context(words: &clock::Words, tombstone: &mut calls::Tombstone
     }
 }
 
-// Applies a context: its dots that were seen join the tombstone, all of them join the clock.
+// Applies a context: its dots that were seen join the tombstone, all of them join the clock. Words and tombstone are two parameters: changing
+// a copy of the whole state in place was tried and is slower (docs/DECISIONS.md, row "parts of a state").
 pub fn join_context(words: &mut clock::Words, tombstone: &mut calls::Tombstone, context: &[u8])
     requires { TombstoneTakes words.old tombstone.old.bytes tombstone.old.count context.now × CanJoinContext window_width words.old context.now }
     ensures { Joined words.old tombstone.old context.now (dots_of context.now) words.new tombstone.new }

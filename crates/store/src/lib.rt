@@ -116,7 +116,7 @@ fn front_length(start: &[u8], words: &clock::Words, s: &[u8]) -> Option<usize>
     Some(at + len)
 }
 
-// One of two numbers.
+// One of two numbers, which the compiler picks without a branch: with a branch in `ascends` judging was slower.
 fn pick(first: bool, a: u64, b: u64) -> u64
     ensures { result ≡ (if first then a else b) }
 {
@@ -184,7 +184,7 @@ fn dot_seen(words: &clock::Words, t: &[u8], at: usize) -> bool
     requires { at + (suffix_size - 1) ≤ length t.now }
     ensures { result ≡ dot_seen words.now t.now at }
 {
-    let row = std::num::wrapping_sub_u64(wire::low_pair_at(t, at), 1);
+    let row = wire::low_pair_at(t, at).wrapping_sub(1);
     if dots::ACTOR_MOST as u64 <= row {
         return false;
     }
@@ -197,10 +197,7 @@ fn seen_label(words: &clock::Words, t: &[u8], last: KeyTail) -> Option<LabelEnd>
     ensures { AfterIs (after_length words.now t.now) result }
 {
     let label = label_end(t, last)?;
-    if dot_seen(words, t, label.len + 1) {
-        return Some(label);
-    }
-    None
+    dot_seen(words, t, label.len + 1).then_some(label)
 }
 
 // Whether bytes with room for the longest key begin with a set's prefix.
@@ -250,7 +247,7 @@ struct Pass<'a> {
 }
 
 impl<'a> Pass<'a> {
-    // The next key of a pass, with room for the longest key.
+    // The next key of a pass, with room for the longest key. `any_key` stays beside it: one reader for both made judging 3 to 4 % slower.
     fn roomy_key(self, last: KeyTail) -> Option<KeyTail>
         requires { Passing (name_in self.start.now) self.words.now self.keys.now last × (last.end + key_most ≤ length self.keys.now) }
         ensures { NextIs (name_in self.entry.start.now) self.entry.words.now self.entry.keys.now (last.end + 1) result }
@@ -335,6 +332,7 @@ impl<'a> Pass<'a> {
         ensures { result ≡ (if used_ok (name_in self.entry.start.now) self.entry.words.now self.entry.keys.now then Some low else None) }
     {
         let mut last = first;
+        // As in `judge_run`, there is nothing to iterate over.
         while last.end < self.keys.len() {
             last = self.any_key(last)?;
         }
@@ -385,6 +383,7 @@ fn judge_keys(start: &[u8], words: &clock::Words, keys: &[u8], label: &[u8]) -> 
         keys,
     };
     let wanted = label_number(label);
+    // Before the first key an empty tail, and no Option: that would be no plainer, as each key would be asked whether it is the first.
     let mut last = KeyTail {
         from: 0,
         end: 0,
@@ -394,6 +393,7 @@ fn judge_keys(start: &[u8], words: &clock::Words, keys: &[u8], label: &[u8]) -> 
         half: 0,
     };
     let mut low = 0;
+    // As in `judge_run`, there is nothing to iterate over.
     while last.end + KEY_MOST <= keys.len() {
         let at = last.end;
         let stop = run_end(at, keys.len());
@@ -522,6 +522,7 @@ fn put_key(out: &mut [u8], name: &[u8], label: &[u8], dot: dots::Dot) -> usize
 }
 
 // Puts a key in its place among the first `used` bytes, of which the first `low` come before it; those from there on move up.
+// `used` stays beside the store: no heap, and the key goes into the bytes past the used ones, which a slice of these would not have.
 fn insert_key(store: &mut [u8], used: usize, n: usize, key: &[u8], low: usize)
     requires { (n ≤ name_most) × (used + length key.now ≤ length store.old) × PlacePast n (take used store.old) key.now low }
     ensures { store.new ≡ inserted_key n store.old used key.now }

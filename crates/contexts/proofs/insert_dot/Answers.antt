@@ -3,8 +3,8 @@ use Rattle.contexts.proofs.Inserting.{held-count, held_bytes, new-count, new-roo
 use borrow.Author.Rules.{rules}
 use Rattle.contexts.proofs.insert_dot.Goals as goal
 
-pub returns-then-holds_dot : goal.returns-then-holds_dot
-returns-then-holds_dot c = search (rules, held-count, held_bytes)
+pub returns-then-holds : goal.returns-then-holds
+returns-then-holds c = search (rules, held-count, held_bytes)
 
 pub overflow_mul-at : goal.overflow_mul-at
 overflow_mul-at c = search (rules, place-fits)

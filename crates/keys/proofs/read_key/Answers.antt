@@ -15,16 +15,19 @@ use Rattle.keys.proofs.Reading.{read_by_type, read_unknown}
 use borrow.Author.Rules.{rules}
 use Rattle.keys.proofs.read_key.Goals as goal
 
-module _ (s : Bytes) (n b : ℕ) (name : n ≡ name_length s) (byte : b ≡ byte_at s (n + 3)) where
+module _ (s t : Bytes) (n b : ℕ) (same : t ≡ s) (named : n ≡ name_length t) (byte : b ≡ byte_at s (n + 3)) where
+  name : n ≡ name_length s
+  name = rw same at named
+
   unknown : (a : Answer) → (a ≡ BadShape) × (type_byte (kind_of b) ≡ b → ⊥) → read_as (Err a) ≡ read_key s
   unknown a h = rw h.0 (sym (read_unknown s b (byte ∙ rw name) h.1))
 
-  module _ (kind : KeyKind) (typed : kind ≡ kind_of b) (key : Bool) (tested : key ≡ is_key kind s) where
+  module _ (kind : KeyKind) (typed : kind ≡ kind_of b) (key : Bool) (tested : key ≡ is_key kind t) where
     by-type : read_key s ≡ cond key (found_key kind s) no_key
-    by-type = rw tested (read_by_type s kind (typed ∙ rw (byte, name)))
+    by-type = let key-is : key ≡ is_key kind s = rw same at tested in rw key-is (read_by_type s kind (typed ∙ rw (byte, name)))
 
-    found : (r : KeyFields) → key ≡ true → read_as (Ok r) ≡ found_key kind s → read_as (Ok r) ≡ read_key s
-    found r h e = rw (by-type, h) e
+    found : (r : KeyFields) → key ≡ true → read_as (Ok r) ≡ found_key kind t → read_as (Ok r) ≡ read_key s
+    found r h e = rw (by-type, h) (rw same at e)
 
     none : key ≡ false → read_as (Err BadShape) ≡ read_key s
     none h = rw (by-type, h)

@@ -29,21 +29,21 @@ slice_bounds-key_dot-end c = search (rules, end-within)
 pub key_dot-dot-requires : goal.key_dot-dot-requires
 key_dot-dot-requires c = search (rules, dot-room)
 
-pub returns-then-not-holds_dot : goal.returns-then-not-holds_dot
-returns-then-not-holds_dot c =
-    live_here _ _ _ _ _ _ (key-at _ _ _ _ c.requires.0 c.loop-at-test.true c.loop-at.invariant.1 c.key_end-end.ensures _ _ _ c.key_dot-dot.ensures c.holds_dot.ensures) _ c.loop-at.invariant.2 c.if-not-holds_dot.true
+pub returns-then-not-holds : goal.returns-then-not-holds
+returns-then-not-holds c =
+    live_here _ _ _ _ _ _ (key-at _ _ _ _ c.requires.0 c.loop-at-test.true c.loop-at.invariant.1 c.key_end-end.ensures _ _ _ c.key_dot-dot.ensures c.holds.ensures) _ c.loop-at.invariant.2 c.if-not-holds.true
 
 pub loop-at-smaller : goal.loop-at-smaller
 loop-at-smaller c =
-    let key = key-at _ _ _ _ c.requires.0 c.loop-at-test.true c.loop-at.invariant.1 c.key_end-end.ensures _ _ _ c.key_dot-dot.ensures c.holds_dot.ensures in
+    let key = key-at _ _ _ _ c.requires.0 c.loop-at-test.true c.loop-at.invariant.1 c.key_end-end.ensures _ _ _ c.key_dot-dot.ensures c.holds.ensures in
     let low = key.later in
     let high = key.within in
     omega arith
 
 pub loop-at-preserved : goal.loop-at-preserved
 loop-at-preserved c =
-    let key = key-at _ _ _ _ c.requires.0 c.loop-at-test.true c.loop-at.invariant.1 c.key_end-end.ensures _ _ _ c.key_dot-dot.ensures c.holds_dot.ensures in
-    (key.within, key.rest-fits, live-later _ _ _ _ _ _ key _ c.loop-at.invariant.2 c.if-not-holds_dot.false)
+    let key = key-at _ _ _ _ c.requires.0 c.loop-at-test.true c.loop-at.invariant.1 c.key_end-end.ensures _ _ _ c.key_dot-dot.ensures c.holds.ensures in
+    (key.within, key.rest-fits, live-later _ _ _ _ _ _ key _ c.loop-at.invariant.2 c.if-not-holds.false)
 
 pub returns : goal.returns
 returns c = none_left _ _ _ _ _ c.loop-at-test.false c.loop-at.invariant.2

@@ -3,4 +3,4 @@ use Rattle.steps.proofs.SameName.{other_set_is}
 use Rattle.steps.proofs.other_set.Goals as goal
 
 pub returns : goal.returns
-returns c = other_set_is c.args.name.now.bytes c.args.given.now c.args.name.now.len _ c.requires c.starts_with-starts.ensures
+returns c = other_set_is c.args.name.now c.args.given.now _ c.starts_with-starts.ensures

@@ -16,15 +16,15 @@ use Rattle.steps.proofs.tombstone_growth.Goals.{After-count}
 pub count-requires-clause-fits : goal.count-requires-clause-fits
 count-requires-clause-fits c = inl (rw (c.filter.ensures.source, c.dots_in.ensures, length-dots_of) (omega arith))
 
-counted : (c : After-count) → c.count.result ≡ length (keep (joins_tombstone c.args.words.now (dots_of c.args.tombstone.now)) (dots_of c.args.context.now))
+counted : (c : After-count) → c.count.result ≡ length (keep (joins_tombstone c.args.words.now (dots_of c.args.tombstone.dots.now)) (dots_of c.args.context.now))
 counted c =
     count_from_yields_List _ _ c.count.ensures.ran
-    (YieldsList-from_filter _ (joins_tombstone c.args.words.now (dots_of c.args.tombstone.now)) (YieldsList-at c.filter.ensures.source (YieldsList-from_dots {s = c.dots_in.result} (dots_of c.args.context.now) cc)) c.filter.ensures.closure (λ x b q k. search (rules, tests)))
-    ∙ ap length (filter-is (joins_tombstone c.args.words.now (dots_of c.args.tombstone.now)) (dots_of c.args.context.now))
+    (YieldsList-from_filter _ (joins_tombstone c.args.words.now (dots_of c.args.tombstone.dots.now)) (YieldsList-at c.filter.ensures.source (YieldsList-from_dots {s = c.dots_in.result} (dots_of c.args.context.now) cc)) c.filter.ensures.closure (λ x b q k. search (rules, tests)))
+    ∙ ap length (filter-is (joins_tombstone c.args.words.now (dots_of c.args.tombstone.dots.now)) (dots_of c.args.context.now))
 
 pub returns : goal.returns
 returns c =
     let is = counted (goal.at.returns c).After-count in
-    let few = keep-few (joins_tombstone c.args.words.now (dots_of c.args.tombstone.now)) (dots_of c.args.context.now) in
+    let few = keep-few (joins_tombstone c.args.words.now (dots_of c.args.tombstone.dots.now)) (dots_of c.args.context.now) in
     let all = length-dots_of c.args.context.now in
     (is, omega arith)

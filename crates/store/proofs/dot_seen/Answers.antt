@@ -28,7 +28,9 @@ module _ (words : List ℕ) (t : Bytes) (known : (k : ℕ) → Fits w8 (get_or t
       seen ∙ sym (rw (second, first, ← event, le-leb 1 (row + 1) (omega arith), le-leb (row + 1) actor_most (omega arith)))
 
 pub returns-then-row : goal.returns-then-row
+unfolding dot_seen
 returns-then-row c = search (rules, no_dot)
 
 pub returns : goal.returns
+unfolding dot_seen
 returns c = search (rules, a-dot)

@@ -1,5 +1,6 @@
 -- The label, and then its dot.
-use Rattle.std.proofs.Common.{◌≡◌, ℕ, ◌+◌, ◌≤◌, Bool, true, false, cond, leb, Some, List, length, ◌∙◌, arith, leb-true}
+use Rattle.std.proofs.Common.{◌≡◌, ℕ, ◌+◌, ◌≤◌, Bool, true, false, cond, leb, Some, List, length, refl, ◌∙◌, arith, leb-true}
+use Rattle.std.specs.Bool.{then_some}
 use Rattle.wire.specs.Bytes.{Bytes, zero_at}
 use Rattle.wire.proofs.Tests.{both_left, both_right}
 use Rattle.dots.specs.Names.{label_most}
@@ -28,6 +29,13 @@ module _ (words : List ℕ) (t : Bytes) (room : tail_most ≤ length t) (l : Lab
   unseen : r ≡ false → after_length words t ≡ 0
   unseen e = after ∙ rw (← seen, e)
 
+  answered : AfterIs (after_length words t) (then_some r l)
+  answered = go r refl
+    where
+      go : (b : Bool) → r ≡ b → AfterIs (after_length words t) (then_some b l)
+      go true e = told e
+      go false e = unseen e
+
 pub returns-in_err-label : goal.returns-in_err-label
 returns-in_err-label c = rw c.from_residual.ensures (after-bad _ _ (rw c.in_err-label.was at c.label_end.ensures))
 
@@ -37,8 +45,5 @@ overflow_add-label c = omega (arith, short _ _ (rw c.in_ok-label.was at c.label_
 pub dot_seen-requires : goal.dot_seen-requires
 dot_seen-requires c = omega (arith, short _ _ (rw c.in_ok-label.was at c.label_end.ensures))
 
-pub returns-then-dot_seen : goal.returns-then-dot_seen
-returns-then-dot_seen c = told _ _ c.requires.0 _ (rw c.in_ok-label.was at c.label_end.ensures) _ c.dot_seen.ensures c.if-dot_seen.true
-
 pub returns : goal.returns
-returns c = unseen _ _ c.requires.0 _ (rw c.in_ok-label.was at c.label_end.ensures) _ c.dot_seen.ensures c.if-dot_seen.false
+returns c = rw c.then_some.ensures (answered _ _ c.requires.0 _ (rw c.in_ok-label.was at c.label_end.ensures) _ c.dot_seen.ensures)

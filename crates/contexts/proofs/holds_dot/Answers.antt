@@ -1,9 +1,0 @@
--- The dot is among ascending ones exactly if it stands at its place.
-use Rattle.std.proofs.Common.{◌*◌, ap, ◌∙◌}
-use Rattle.wire.proofs.Parts.{rest_part}
-use Rattle.dots.specs.Wire.{dot_size}
-use Rattle.contexts.proofs.Search.{holds_first}
-use Rattle.contexts.proofs.holds_dot.Goals as goal
-
-pub returns : goal.returns
-returns c = c.eq.ensures ∙ holds_first c.args.dots.now c.args.dot c.requires c.search_dot-at.result c.search_dot-at.ensures.0 c.search_dot-at.ensures.1 c.dots_in.result.bytes.now (ap (λ b. b.now) c.dots_in.ensures ∙ rest_part c.args.dots.now (c.search_dot-at.result * dot_size)) _ c.next.result c.next.ensures.steps
