@@ -218,6 +218,13 @@ unfolding reach_each
 reach_each-append W words x [] ys = refl
 reach_each-append W words x (d ∷ xs) ys = reach_each-append W words (reach_step W words x d) xs ys
 
+pub reach-around : (W : ℕ) (words : List ℕ) (xs : List Dot) (d : Dot) (ys : List Dot) (below there end : Reach)
+    → below ≡ reach_each W words reach_start xs → there ≡ reach_step W words below d → end ≡ reach_each W words there ys
+    → end ≡ reach_each W words reach_start (xs ++ (d ∷ ys))
+unfolding reach_each
+reach-around W words xs d ys below there end e f g =
+    g ∙ ap (λ (x : Reach). reach_each W words x ys) (f ∙ ap (λ (x : Reach). reach_step W words x d) e) ∙ sym (reach_each-append W words reach_start xs (d ∷ ys))
+
 -- one step of the code, which stops at the first that is out of reach
 module _ (W : ℕ) (words : List ℕ) (x : Reach) (left : List Dot) where
   pub reach-next : (y : Reach) (d : Dot) (more : List Dot) → left ≡ d ∷ more → y ≡ reach_step W words x d → reach_each W words y more ≡ reach_each W words x left

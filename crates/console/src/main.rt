@@ -9,7 +9,7 @@ mod formats;
 mod lookup;
 mod rack;
 
-use lines::limits::{CONTROLLERS, LINE_MAX, OUT_MAX};
+use lines::limits::{ARGUMENTS_MAX, CONTROLLERS, LINE_MAX, OUT_MAX};
 use lines::parse;
 use lines::parse::{Command, Line};
 use lines::why::{Refusal, Why};
@@ -25,7 +25,6 @@ const INPUT_MAX: usize = 2097152;
 #[derive(Drop)]
 struct Console<W: Write + Drop> {
     writer: W,
-    alloc: Global,
     controllers: [Controller; CONTROLLERS],
     out: Vec<u8>,
 }
@@ -36,15 +35,18 @@ impl<W: Write + Drop> Console<W> {
         let out = Vec::with_capacity(alloc, OUT_MAX)?;
         Ok(Console {
             writer,
-            alloc,
             controllers,
             out,
         })
     }
 
     // Reads a line that can be carried out.
-    fn read<'a>(&self, text: &'a [u8]) -> Result<Line<'a>, Refusal> {
-        let line = parse::read_line(self.alloc, text)?;
+    fn read<'a>(
+        &self,
+        text: &'a [u8],
+        args: &'a mut [u8; ARGUMENTS_MAX],
+    ) -> Result<Line<'a>, Refusal> {
+        let line = parse::read_line(text, args)?;
         if let Command::Change(change) = &line.command {
             self.controllers[line.controller.index].check(change)?;
         }
@@ -78,12 +80,12 @@ impl<W: Write + Drop> Console<W> {
     }
 
     // Answers a line, unless it is blank or a comment.
-    fn answer(&mut self, text: &[u8]) -> io::Result<()> {
+    fn answer(&mut self, text: &[u8], args: &mut [u8; ARGUMENTS_MAX]) -> io::Result<()> {
         let is_silent = text.is_empty() || text.starts_with(b"#");
         if is_silent && text.len() <= LINE_MAX {
             return Ok(());
         }
-        match self.read(text) {
+        match self.read(text, args) {
             Ok(line) => {
                 self.writer.write_all(line.word)?;
                 self.carry_out(&line)?;
@@ -94,13 +96,13 @@ impl<W: Write + Drop> Console<W> {
     }
 
     // Answers the input line by line.
-    fn run(&mut self, input: &[u8]) -> io::Result<()> {
+    fn run(&mut self, input: &[u8], args: &mut [u8; ARGUMENTS_MAX]) -> io::Result<()> {
         if INPUT_MAX <= input.len() {
             let refusal = Refusal::from(Why::LongInput);
             return writeln!(self.writer, "{refusal}");
         }
         for text in input.split(|b| *b == b'\n') {
-            self.answer(text)?;
+            self.answer(text, args)?;
         }
         Ok(())
     }
@@ -117,6 +119,7 @@ fn main(rt: HostRuntime) -> io::Result<()> {
     let input = read_input(&rt)?;
     let writer = BufWriter::new(rt.alloc(), io::writer(&rt))?;
     let mut console = Console::new(rt.alloc(), writer)?;
-    console.run(&input)?;
+    let mut args = [0u8; ARGUMENTS_MAX];
+    console.run(&input, &mut args)?;
     console.writer.flush()
 }

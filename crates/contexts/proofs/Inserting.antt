@@ -30,6 +30,9 @@ module _ (s : List ℕ) (count : ℕ) (d : Dot) (size : length s ≡ tombstone_s
   front-size : length (take (count * dot_size) s) ≡ count * dot_size
   front-size = length-take-le (count * dot_size) s (omega arith)
 
+  pub front_length_lem : count * dot_size ≡ length (take (count * dot_size) s)
+  front_length_lem = sym front-size
+
   dots-count : length (dots_of (take (count * dot_size) s)) ≡ count
   dots-count = omega (arith, length-dots_of (take (count * dot_size) s), front-size)
 

@@ -1,14 +1,18 @@
 -- Dots by their places in bytes: the i-th of n dots starts at byte 9 i. Assumes nothing.
-use mathlib.Core.Path.{◌≡◌, refl, ap}
+use mathlib.Core.Path.{◌≡◌, refl, sym, ap, ◌∙◌}
+use mathlib.Core.Bool.{Bool, true, false, ◌&&◌, and-true}
 use mathlib.Core.List.{List, [], ◌∷◌}
 use Prim.Native.Nat.{ℕ, zero, suc, ◌+◌, ◌-◌, ◌*◌, ◌/◌, ◌≤◌, ◌<◌}
 use native.Mathlib.Nat.{sub-zero}
 use native.Mathlib.Omega.{arith}
 use lib.ListN.{length, take, drop}
+use Rattle.wire.specs.Lists.{is_lt}
 use lib.Seq.{get_or-take, get_or-drop, take-take, drop-drop}
 use Rattle.wire.proofs.Parts.{drop-take}
 use Rattle.dots.specs.declared.Dot.{Dot}
+use Rattle.dots.specs.Dots.{compare_dots, dot_ok}
 use Rattle.dots.specs.Wire.{dot_at, dots_at, dots_of, dot_size}
+use Rattle.dots.proofs.Rules.{ascend_after}
 
 pub length-dots_at : (n : ℕ) (s : List ℕ) (at : ℕ) → length (dots_at n s at) ≡ n
 unfolding dots_at
@@ -39,6 +43,26 @@ module _ (s : List ℕ) where
   pub dots-none : (i : ℕ) → length s / dot_size ≤ i → left s i ≡ []
   unfolding dots_at
   dots-none i h = let none : length s / dot_size - i ≡ 0 = omega arith in rw none
+
+-- ---- a test of every dot
+
+ascend-step : (ok : Bool) (before d : Dot) (ds : List Dot) → (ok && ascend_after before (d ∷ ds)) ≡ (((ok && dot_ok d) && is_lt (compare_dots before d)) && ascend_after d ds)
+unfolding ascend_after
+ascend-step true before d ds = step (dot_ok d)
+  where
+    step : (b : Bool) → (b && (is_lt (compare_dots before d) && ascend_after d ds)) ≡ ((b && is_lt (compare_dots before d)) && ascend_after d ds)
+    step true = refl
+    step false = refl
+ascend-step false before d ds = refl
+
+module _ (s : List ℕ) (i : ℕ) (before : Dot) (whole ok : Bool) (inv : whole ≡ (ok && ascend_after before (left s i))) where
+  pub ascend-turn : (d : Dot) (rule above : Bool) → i < length s / dot_size → d ≡ dot_at s (i * dot_size) → rule ≡ dot_ok d → above ≡ is_lt (compare_dots before d)
+      → whole ≡ (((ok && rule) && above) && ascend_after d (left s (i + 1)))
+  ascend-turn d rule above h e f g = (rw (dots-next s i h, ← e) at inv) ∙ rw (f, g) (ascend-step ok before d (left s (i + 1)))
+
+  pub ascend-end : length s / dot_size ≤ i → ok ≡ whole
+  unfolding ascend_after
+  ascend-end h = sym (rw (dots-none s i h, and-true) at inv)
 
 -- ---- dots of a part of the bytes
 

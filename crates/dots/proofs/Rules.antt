@@ -1,14 +1,14 @@
 -- What the rules of names, dots and contexts say. Assumes nothing.
 use mathlib.Core.Path.{◌≡◌, refl, ◌∙◌}
 use mathlib.Core.Logic.{◌⊎◌, inl, inr}
-use mathlib.Core.Bool.{Bool, true, false, ◌&&◌}
+use mathlib.Core.Bool.{Bool, true, false, ◌&&◌, ◌||◌}
 use mathlib.Core.List.{List, [], ◌∷◌}
-use Prim.Native.Nat.{ℕ, zero, suc, ◌≤◌}
+use Prim.Native.Nat.{ℕ, zero, suc, ◌≤◌, Ordering}
 use native.Mathlib.Omega.{arith}
-use lib.Dec.{compare_is_eq, leb, eqb, eqb-suc-suc}
+use lib.Dec.{compare_is_eq, leb, ltb, eqb, eqb-suc-suc}
 use lib.ListN.{length}
 use borrow.Author.Tests.{leb-true, le-leb, ne_eqb}
-use Rattle.wire.specs.Lists.{is_lt, all, ascends_from, ascends, Ascending}
+use Rattle.wire.specs.Lists.{then, is_lt, all, ascends_from, ascends, Ascending}
 use Rattle.std.specs.Ordering.{partial_lt}
 use Rattle.std.proofs.Common.{rules}
 use Rattle.dots.specs.contracts.DotPartialOrd.TheImpl.{partial_cmp-value}
@@ -16,10 +16,10 @@ use Rattle.dots.specs.contracts.DotPartialEq.TheImpl.{eq-value}
 use Rattle.wire.specs.Bytes.{zero_at, between}
 use Rattle.wire.proofs.Tests.{decided, both, both_left, both_right}
 use Rattle.wire.proofs.Lists.{ascends-ascending, ascending-ascends}
-use Rattle.wire.proofs.Orders.{number_less}
+use Rattle.wire.proofs.Orders.{is_lt_number, number_less}
 use Rattle.dots.specs.declared.Dot.{Dot}
 use Rattle.dots.specs.Names.{Label, text_ok, label_most, label_ok, print_low, prints, label_prints}
-use Rattle.dots.specs.Dots.{zero_dot, actor_most, max_counter, compare_dots, dot_ok, ascending_dots}
+use Rattle.dots.specs.Dots.{zero_dot, actor_most, max_counter, compare_actors, compare_counters, compare_dots, dot_ok, ascending_dots}
 use Rattle.dots.proofs.Orders.{dots}
 
 -- ---- names
@@ -71,6 +71,23 @@ valid d t = record {
   counter-low = leb-true _ _ (search both);
   counter_high = leb-true _ _ (search both);
 }
+
+-- the order and equality, by actors and counters
+pub lower-test : (d e : Dot) → (ltb d.actor.number e.actor.number || (eqb d.actor.number e.actor.number && ltb d.counter.number e.counter.number)) ≡ is_lt (compare_dots d e)
+lower-test d e = rw (← is_lt_number d.actor.number e.actor.number, ← is_lt_number d.counter.number e.counter.number) (step (compare_actors d.actor e.actor))
+  where
+    step : (o : Ordering) → (is_lt o || (compare_is_eq o && is_lt (compare_counters d.counter e.counter))) ≡ is_lt (then o (compare_counters d.counter e.counter))
+    step Ordering.lt = refl
+    step Ordering.eq = refl
+    step Ordering.gt = refl
+
+pub same_test : (d e : Dot) → (eqb d.actor.number e.actor.number && eqb d.counter.number e.counter.number) ≡ compare_is_eq (compare_dots d e)
+same_test d e = step (compare_actors d.actor e.actor)
+  where
+    step : (o : Ordering) → (compare_is_eq o && compare_is_eq (compare_counters d.counter e.counter)) ≡ compare_is_eq (then o (compare_counters d.counter e.counter))
+    step Ordering.lt = refl
+    step Ordering.eq = refl
+    step Ordering.gt = refl
 
 -- `<` of dots in the code is `compare_dots`, and so is `==`
 pub lower-is : (d e : Dot) → partial_lt partial_cmp-value.it d e ≡ is_lt (compare_dots d e)

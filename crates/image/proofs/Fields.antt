@@ -2,7 +2,7 @@
 use Prim.Native.Nat.{ℕ, ◌-◌, ◌^◌, ◌≤◌, ◌<◌}
 use mathlib.Core.Path.{◌≡◌, refl, ap, ◌∙◌}
 use mathlib.Core.Bool.{Bool, true, false}
-use mathlib.Core.List.{List}
+use mathlib.Core.List.{List, []}
 use native.Mathlib.Omega.{arith}
 use lib.Dec.{compare_is_eq, eqb}
 use lib.ListN.{length, take, drop}
@@ -13,14 +13,15 @@ use Rattle.wire.proofs.Lists.{tie-is}
 use Rattle.wire.proofs.Orders.{bytes_lawful}
 use Rattle.wire.proofs.Parts.{rest_part}
 use Rattle.wire.proofs.BigEndian.{from-big_endian, big_endian-from}
-use Rattle.wire.proofs.Fields.{part-written, put_front}
+use Rattle.wire.proofs.Fields.{part-written, put_front, put-zeros}
 use Rattle.crc.specs.Crc.{crc_of}
 use Rattle.dots.specs.declared.Answer.TheVariants.{Done}
 use Rattle.dots.specs.Names.{name_most}
 use Rattle.dots.specs.Dots.{actor_of, actor_most, tombstone_most}
-use Rattle.dots.specs.Wire.{tombstone_size}
+use Rattle.dots.specs.Wire.{tombstone_size, dots_bytes}
 use Rattle.calls.specs.declared.State.{State}
 use Rattle.calls.specs.declared.ImageLayout.{ImageLayout}
+use Rattle.calls.specs.Calls.{fresh_state}
 use Rattle.calls.specs.Damage.{damaged}
 use Rattle.calls.specs.Effect.{padded}
 use Rattle.calls.specs.ImageRead.{crc_ok, clock_in, state_at, written_at}
@@ -59,7 +60,8 @@ module _ (s : Bytes) (small : AreBytes s) (long : 4 ≤ length s) (crc last : �
 -- ---- the state of the fields
 
 module _ (s : Bytes) (l : ImageLayout) where
-  pub state-made : (name words bytes : List ℕ) (actor : ℕ) → name ≡ padded name_most (part_of s l.name) → words ≡ clock_in window_size actor_most s l.rows → bytes ≡ padded tombstone_size (part_of s l.dots)
+  pub state-made : (st : State) (name words bytes : List ℕ) (actor : ℕ) → st ≡ fresh_state 0 [] → name ≡ put_at st.name.bytes 0 (part_of s l.name) → words ≡ clock_in window_size actor_most s l.rows
+      → bytes ≡ put_at st.tombstone.bytes 0 (part_of s l.dots)
       → ◌≡◌ {A = State} (record {
         actor = actor_of actor;
         name = record { bytes = name; len = l.name.len };
@@ -67,13 +69,15 @@ module _ (s : Bytes) (l : ImageLayout) where
         tombstone = record { bytes = bytes; count = l.count };
         used = l.keys.len;
       }) (state_at actor s l)
-  unfolding state_at
-  state-made name words bytes actor named clock removed = rw (named, clock, removed)
+  unfolding state_at dots_bytes
+  state-made st name words bytes actor zero named clock removed =
+      let named' : name ≡ padded name_most (part_of s l.name) = put-zeros name_most (part_of s l.name) name (rw zero at named) in
+      let removed' : bytes ≡ padded tombstone_size (part_of s l.dots) = put-zeros tombstone_size (part_of s l.dots) bytes (rw zero at removed) in
+      rw (named', clock, removed')
 
   -- the keys judged where they stand
-  pub judged : (writer : ℕ) (st : State) (keys : Bytes) (r : Bool) → writer ≡ byte_at s l.actor → st ≡ state_at writer s l → keys ≡ part_of s l.keys → r ≡ damaged st keys
-      → r ≡ damaged (written_at s l) (part_of s l.keys)
-  judged writer st keys r w e k j = j ∙ rw (e, k, w)
+  pub judged : (st : State) (keys : Bytes) (r : Bool) → st ≡ written_at s l → keys ≡ part_of s l.keys → r ≡ damaged st keys → r ≡ damaged (written_at s l) (part_of s l.keys)
+  judged st keys r e k j = j ∙ rw (e, k)
 
 -- more dots than a tombstone may have are damage
 pub too_many : (s : Bytes) (l : ImageLayout) → tombstone_most < l.count → true ≡ damaged (written_at s l) (part_of s l.keys)
@@ -83,11 +87,12 @@ too_many s l many = by (damaged (written_at s l) (part_of s l.keys)) (few-dots (
     by true few = refl
     by false few = absurd (omega (arith, few refl))
 
--- what loading leaves: state and keys at their places
-pub load-made : (actor : ℕ) (s store store' keys : Bytes) (l : ImageLayout) (st : State) → st ≡ state_at actor s l → keys ≡ part_of s l.keys → store' ≡ put_at store 0 keys
-    → LoadsImage (loaded_at actor s store l) store' (record { answer = Done; state = st })
+-- what loading leaves: the writer's state under the new actor, and the keys at their place
+pub load-made : (actor : ℕ) (s store store' keys : Bytes) (l : ImageLayout) (st : State) → st ≡ written_at s l → keys ≡ part_of s l.keys → store' ≡ put_at store 0 keys
+    → LoadsImage (loaded_at actor s store l) store' (record { answer = Done; state = record st { actor = actor_of actor } })
+unfolding state_at
 load-made actor s store store' keys l st e k f = record {
   answered = refl;
-  state-is = e;
+  state-is = rw e;
   store_is = f ∙ put_front store keys ∙ rw k;
 }

@@ -2,22 +2,25 @@
 
 #![tactic(auto)]
 
-ghost use Rattle.std.specs.Prelude.{◌≡◌, ◌+◌, ◌*◌, ◌≤◌, ◌<◌, ◌^◌, length, take};
+ghost use Rattle.std.specs.Prelude.{◌≡◌, [], ◌+◌, ◌*◌, ◌≤◌, ◌<◌, ◌^◌, length, take};
 ghost use Rattle.wire.specs.Bytes.{byte_at, big_endian, put_at, end_of, part_of};
 ghost use Rattle.crc.specs.Crc.{crc_of};
 ghost use Rattle.dots.specs.Answer.{first_of};
+ghost use Rattle.dots.specs.declared.Answer.TheVariants.{Done};
 ghost use Rattle.dots.specs.Names.{name_most};
 ghost use Rattle.dots.specs.Dots.{actor_most, tombstone_most};
 ghost use Rattle.clock.specs.Code.{row_of};
+ghost use Rattle.clock.specs.Clock.{row_at};
 ghost use Rattle.store.specs.Valid.{store_most};
 ghost use Rattle.calls.specs.Damage.{damaged as is_damaged};
+ghost use Rattle.calls.specs.Calls.{fresh_state};
 ghost use Rattle.calls.specs.Image.{row_size, row_bytes, rows_bytes, image_bytes};
 ghost use Rattle.calls.specs.ImageRead.{four_at, version_ok, layout_of, shape_ok, Within, crc_ok, row_in, clock_in, state_at, written_at, free_of, writer_ok};
-ghost use Rattle.calls.specs.HandOff.{image_result, load_refusals, loaded_at, load_result};
+ghost use Rattle.calls.specs.HandOff.{image_result, loaded_at, load_result};
 ghost use Rattle.image.specs.Sizes.{window_size, rows_size, actor_fixed, image_size};
 ghost use Rattle.image.specs.Writing.{FrontPut, KeysPut, RestFits, RestPut, image_of, PartsFit, PutsImage, Writable};
 ghost use Rattle.steps.specs.Tests.{passed};
-ghost use Rattle.image.specs.Loading.{Small, Loadable, late_refusals, checked_refusals};
+ghost use Rattle.image.specs.Loading.{Small, Loadable, field_refusals, early_refusals, late_refusals, fields_result};
 ghost use Rattle.image.specs.Promise.{WritesImage, LoadsImage};
 
 mod places;
@@ -232,27 +235,19 @@ fn bytes_in(s: &[u8], field: wire::Span) -> &[u8]
     &s[field.at..field.at + field.len]
 }
 
-// The state of the fields, under an actor.
-fn state_in(actor: u8, image: ImageFields) -> calls::State
-    requires { image.places.count ≤ tombstone_most }
-    ensures { result ≡ state_at actor image.entry.bytes.now image.entry.places }
+// The state of the fields, under an actor, made in place of one that is zero throughout.
+fn state_in(actor: u8, image: ImageFields, state: &mut calls::State)
+    requires { (state.old ≡ fresh_state 0 []) × (image.places.count ≤ tombstone_most) }
+    ensures { state.new ≡ state_at actor image.entry.bytes.now image.entry.places }
 {
-    let l = image.places;
-    calls::State {
-        actor: dots::Actor { number: actor },
-        name: calls::SetName {
-            bytes: controller::padded(bytes_in(image.bytes, l.name)),
-            len: l.name.len,
-        },
-        clock: clock::Clock {
-            words: words_in(image.bytes, l.rows),
-        },
-        tombstone: calls::Tombstone {
-            bytes: controller::padded(bytes_in(image.bytes, l.dots)),
-            count: l.count,
-        },
-        used: l.keys.len,
-    }
+    let ImageFields { bytes, places, .. } = image;
+    moves::put(&mut state.name.bytes, 0, bytes_in(bytes, places.name));
+    moves::put(&mut state.tombstone.bytes, 0, bytes_in(bytes, places.dots));
+    state.actor = dots::Actor { number: actor };
+    state.name.len = places.name.len;
+    state.clock.words = words_in(bytes, places.rows);
+    state.tombstone.count = places.count;
+    state.used = places.keys.len;
 }
 
 // ---- the answer
@@ -283,11 +278,26 @@ fn crc_ok(s: &[u8]) -> bool
     wire::half_at(s, at) == crc as u64
 }
 
-// Whether an actor is free: from 1 to 16, not the writer's, its row empty.
-fn actor_free(actor: u8, writer: u8, words: &clock::Words) -> bool
-    ensures { result ≡ free_of actor writer words.now }
+// The row of an actor in the rows from a place on; of no actor it is zero.
+fn actor_row(s: &[u8], rows: usize, actor: u8) -> clock::Row
+    requires { rows + rows_size ≤ length s.now }
+    ensures { row_of result ≡ row_at (clock_in window_size actor_most s.now rows) actor }
 {
-    let row = clock::row_of(words, dots::Actor { number: actor });
+    if actor < 1 {
+        return clock::Row { base: 0, window: 0 };
+    }
+    if dots::ACTOR_MOST < actor {
+        return clock::Row { base: 0, window: 0 };
+    }
+    row_in(s, rows + (actor - 1) as usize * ROW_SIZE)
+}
+
+// Whether an actor is free: from 1 to 16, not the writer's, its row empty. Of the rows from a place on this one alone is read.
+fn actor_free(actor: u8, writer: u8, s: &[u8], rows: usize) -> bool
+    requires { rows + rows_size ≤ length s.now }
+    ensures { result ≡ free_of actor writer (clock_in window_size actor_most s.now rows) }
+{
+    let row = actor_row(s, rows, actor);
     ((1 <= actor) & (actor <= dots::ACTOR_MOST))
         & (!(actor == writer) & ((row.base == 0) & (row.window == 0)))
 }
@@ -302,47 +312,25 @@ fn writer_ok(image: Image) -> bool
     named & ((1 <= writer) & (writer <= dots::ACTOR_MOST))
 }
 
-// Whether the contents are a damaged state under the writer's actor. The keys are judged where they stand.
-fn contents_damaged(image: ImageFields) -> bool
-    ensures { result ≡ is_damaged (written_at image.entry.bytes.now image.entry.places) (part_of image.entry.bytes.now image.entry.places.keys) }
-{
-    let l = image.places;
-    if dots::TOMBSTONE_MOST < l.count {
-        return true;
-    }
-    let state = state_in(wire::byte_at(image.bytes, l.actor), image);
-    judging::damaged(&state, bytes_in(image.bytes, l.keys))
-}
-
-// Refusals 6 and 12, for a store of so many bytes.
-fn late_answer(room: usize, image: ImageFields) -> Result<(), dots::Answer>
-    ensures { result ≡ passed (first_of (late_refusals room image.entry.bytes.now image.entry.places)) }
-{
-    steps::refused(&[
-        (contents_damaged(image), dots::Answer::BadDot),
-        (room < image.places.keys.len, dots::Answer::StoreFull),
-    ])
-}
-
-// Refusals 14, 15 and 5, then those of the contents.
-fn checked_answer(actor: u8, room: usize, image: Image) -> Result<(), dots::Answer>
+// Refusals 14, 15 and 5, and 6 where there are more dots than a state holds.
+fn checked_answer(actor: u8, image: Image) -> Result<(), dots::Answer>
     requires { Within image.bytes.now image.places }
-    ensures { result ≡ passed (first_of (checked_refusals actor room image.entry.bytes.now image.entry.places)) }
+    ensures { result ≡ passed (first_of (field_refusals actor image.entry.bytes.now image.entry.places)) }
 {
     let Image { bytes, places, .. } = image;
-    let words = words_in(bytes, places.rows);
-    let free = actor_free(actor, wire::byte_at(bytes, places.actor), &words);
+    let writer = wire::byte_at(bytes, places.actor);
+    let free = actor_free(actor, writer, bytes, places.rows);
     steps::refused(&[
         (!crc_ok(bytes), dots::Answer::BadChecksum),
         (!free, dots::Answer::ActorTaken),
         (!writer_ok(image), dots::Answer::BadName),
-    ])?;
-    late_answer(room, ImageFields { bytes, places })
+        (dots::TOMBSTONE_MOST < places.count, dots::Answer::BadDot),
+    ])
 }
 
-// Refusals 1 to 4, then those of an image that has its shape.
+// Refusals 1 to 4, then those of the fields of an image that has its shape.
 fn load_answer(actor: u8, image: Image, store: &[u8]) -> Result<(), dots::Answer>
-    ensures { result ≡ passed (first_of (load_refusals actor image.entry.bytes.now store.now)) }
+    ensures { result ≡ passed (first_of (early_refusals actor image.entry.bytes.now store.now)) }
 {
     steps::refused(&[
         (store::STORE_MOST < store.len(), dots::Answer::Damaged),
@@ -350,21 +338,57 @@ fn load_answer(actor: u8, image: Image, store: &[u8]) -> Result<(), dots::Answer
         (!version_ok(image.bytes), dots::Answer::BadVersion),
         (!shape_ok(image), dots::Answer::BadShape),
     ])?;
-    checked_answer(actor, store.len(), image)
+    checked_answer(actor, image)
+}
+
+// Whether the contents are a damaged state under the writer's actor. The state is lent, and the keys are judged where they stand.
+fn contents_damaged(image: ImageFields, state: &calls::State) -> bool
+    requires { state.now ≡ written_at image.bytes.now image.places }
+    ensures { result ≡ is_damaged (written_at image.entry.bytes.now image.entry.places) (part_of image.entry.bytes.now image.entry.places.keys) }
+{
+    judging::damaged(state, bytes_in(image.bytes, image.places.keys))
+}
+
+// Refusals 6 and 12, for a store of so many bytes.
+fn late_answer(room: usize, image: ImageFields, state: &calls::State) -> Result<(), dots::Answer>
+    requires { state.now ≡ written_at image.bytes.now image.places }
+    ensures { result ≡ passed (first_of (late_refusals room image.entry.bytes.now image.entry.places)) }
+{
+    steps::refused(&[
+        (contents_damaged(image, state), dots::Answer::BadDot),
+        (room < image.places.keys.len, dots::Answer::StoreFull),
+    ])
 }
 
 // ---- loading
 
-// Loads an image that is not refused.
-fn load_done(actor: u8, image: ImageFields, store: &mut [u8]) -> calls::SetUp
-    requires { Loadable image.places (length store.old) }
-    ensures { LoadsImage (loaded_at actor image.entry.bytes.now store.old image.entry.places) store.new result }
+// Loads an image that is not refused: the writer's state becomes the actor's.
+fn load_done(actor: u8, image: ImageFields, state: &mut calls::State, store: &mut [u8])
+    requires { Loadable image.places (length store.old) × (state.old ≡ written_at image.bytes.now image.places) }
+    ensures { LoadsImage (loaded_at actor image.entry.bytes.now store.old image.entry.places) store.new (record { answer = Done; state = state.new }) }
 {
     moves::put(store, 0, bytes_in(image.bytes, image.places.keys));
-    calls::SetUp {
-        answer: dots::Answer::Done,
-        state: state_in(actor, image),
+    state.actor = dots::Actor { number: actor };
+}
+
+// Judges the fields of an image as the writer's state, and loads them. The one state is made in place of one that is zero throughout, which a refusal leaves.
+fn load_fields(
+    actor: u8,
+    image: ImageFields,
+    state: &mut calls::State,
+    store: &mut [u8],
+) -> dots::Answer
+    requires { (state.old ≡ fresh_state 0 []) × (image.places.count ≤ tombstone_most) }
+    ensures { LoadsImage (fields_result actor image.entry.bytes.now store.old image.entry.places) store.new (record { answer = result; state = state.new }) }
+{
+    let ImageFields { bytes, places, .. } = image;
+    state_in(wire::byte_at(bytes, places.actor), image, state);
+    if let Err(answer) = late_answer(store.len(), image, state) {
+        *state = controller::fresh_state(0, &bytes[0..0]);
+        return answer;
     }
+    load_done(actor, image, state, store);
+    dots::Answer::Done
 }
 
 // Loads an image.
@@ -376,18 +400,14 @@ pub fn load(actor: u8, image: &[u8], store: &mut [u8]) -> calls::SetUp
         bytes: image,
         places,
     };
+    let mut state = controller::fresh_state(0, &image[0..0]);
     if let Err(answer) = load_answer(actor, given, store) {
-        return calls::SetUp {
-            answer,
-            state: controller::fresh_state(0, &image[0..0]),
-        };
+        return calls::SetUp { answer, state };
     }
-    load_done(
-        actor,
-        ImageFields {
-            bytes: image,
-            places,
-        },
-        store,
-    )
+    let fields = ImageFields {
+        bytes: image,
+        places,
+    };
+    let answer = load_fields(actor, fields, &mut state, store);
+    calls::SetUp { answer, state }
 }

@@ -2,7 +2,7 @@
 use mathlib.Core.Path.{◌≡◌, refl, sym, ap, subst, ◌∙◌}
 use mathlib.Core.Bool.{true, cond}
 use mathlib.Core.List.{[], ◌∷◌, ◌++◌, append-nil}
-use Prim.Native.Nat.{ℕ, ◌+◌, ◌^◌, ◌<◌}
+use Prim.Native.Nat.{ℕ, ◌+◌, ◌^◌, ◌≤◌, ◌<◌}
 use native.Mathlib.Omega.{arith}
 use lib.Dec.{compare_is_eq}
 use lib.ListN.{length, drop}
@@ -11,6 +11,7 @@ use Rattle.wire.proofs.Tests.{both, pass}
 use Rattle.wire.proofs.Lists.{tie-is}
 use Rattle.wire.proofs.Orders.{bytes_lawful}
 use Rattle.wire.proofs.Fields.{byte_on, number-on}
+use Rattle.dots.specs.Names.{name_most, label_most}
 use Rattle.keys.specs.declared.KeyKind.{KeyKind}
 use Rattle.keys.specs.declared.KeyKind.TheVariants.{ClockKey, TombstoneKey, LabelKey, EndKey}
 use Rattle.keys.specs.Key.{Key, type_byte, has_label, has_actor, after_type, key_bytes, prefix_fixed}
@@ -19,7 +20,7 @@ use Rattle.keys.specs.Parts.{tail_length, actor_counter}
 use Rattle.keys.specs.Tests.{kind_of}
 use Rattle.keys.proofs.Texts.{text_on}
 use Rattle.keys.proofs.Lengths.{length-key}
-use Rattle.keys.proofs.Valid.{ValidKey, made-valid, name-nonzero, label-nonzero, counter-fits}
+use Rattle.keys.proofs.Valid.{ValidKey, made-valid, names-short, name-nonzero, label-nonzero, counter-fits}
 
 pub kind-type : (t : KeyKind) → kind_of (type_byte t) ≡ t
 kind-type ClockKey = refl
@@ -104,3 +105,6 @@ module _ (kind : KeyKind) (s : Bytes) (key : is_key kind s ≡ true) where
       let w : Laid k s = laid-read in
       let size : length s ≡ length k.name + length k.label + (prefix_fixed + tail_length kind) = ap length (sym (is_key_read kind s key).1) ∙ length-key k in
       omega arith
+
+  pub key-short : (name_length s ≤ name_most) × (label_length s ≤ label_most)
+  key-short = let short = names-short (fields_as kind s) (is_key_read kind s key).0 in let w : Laid (fields_as kind s) s = laid-read in omega arith

@@ -1,5 +1,5 @@
 -- Keys that keep the rules, and what the rules say of their fields. Assumes nothing.
-use mathlib.Core.Path.{◌≡◌, refl, sym, ap}
+use mathlib.Core.Path.{◌≡◌, refl, sym, ap, subst}
 use mathlib.Core.Bool.{true, cond}
 use mathlib.Core.List.{[]}
 use Prim.Native.Nat.{ℕ, ◌^◌, ◌≤◌, ◌<◌}
@@ -61,6 +61,11 @@ module _ (k : Key) (valid : ValidKey k) where
 
   pub name-nonzero : all (leb 1) k.name ≡ true
   name-nonzero = text_nonzero name_most k.name name-ok
+
+  pub names-short : (length k.name ≤ name_most) × (length k.label ≤ label_most)
+  names-short =
+      let short = kept-short k.kind k.name k.label k.actor k.counter (subst (λ (j : Key). names_ok j ≡ true) valid.whole valid.names) in
+      (short.0, rw label_kept at short.1)
 
   pub label-nonzero : all (leb 1) k.label ≡ true
   unfolding names_ok all

@@ -1,12 +1,13 @@
-// The kinds of fields: each function reads what a field of its kind stands for.
+// The kinds of fields: each function reads what a field of its kind stands for. One that stands for bytes has them put at the front of `out`,
+// and their number is returned. `ARGUMENTS_MAX` is room for those of any line; where there is less, the last are dropped.
 ghost use Rattle.std.specs.Prelude.{length};
 ghost use Rattle.std.specs.Iterator.{at_most};
 
 use crate::limits::{BUFFER_MAX, CONTROLLERS, OUT_MAX};
 use crate::parse::Place;
+use crate::parts;
 use crate::why::Why;
-use dots::{Actor, Counter, Dot};
-use std::alloc::Global;
+use dots::{Actor, Counter, DOT_SIZE, Dot};
 
 // ---- numbers
 
@@ -103,11 +104,14 @@ fn hex_pair(digits: &[u8]) -> Result<u8, Why> {
 }
 
 // HEX.
-pub fn hex(alloc: Global, field: &[u8]) -> Result<Vec<u8>, Why> {
-    match field {
-        b"-" => Ok(Vec::new(alloc)),
-        _ => field.chunks(2).map(hex_pair).try_collect(alloc),
+pub fn hex(field: &[u8], out: &mut [u8]) -> Result<usize, Why> {
+    if field == b"-".as_slice() {
+        return Ok(0);
     }
+    for (place, digits) in out.iter_mut().zip(field.chunks(2)) {
+        *place = hex_pair(digits)?;
+    }
+    Ok(field.len() / 2)
 }
 
 // The bytes that are left of a TEXT.
@@ -133,18 +137,23 @@ impl Iterator for Characters<'_> {
 }
 
 // TEXT.
-pub fn text(alloc: Global, field: &[u8]) -> Result<Vec<u8>, Why> {
-    match field {
-        b"-" => Ok(Vec::new(alloc)),
-        _ => Characters(field).try_collect(alloc),
+pub fn text(field: &[u8], out: &mut [u8]) -> Result<usize, Why> {
+    if field == b"-".as_slice() {
+        return Ok(0);
     }
+    let mut len: usize = 0;
+    for (place, character) in out.iter_mut().zip(Characters(field)) {
+        *place = character?;
+        len = len.saturating_add(1);
+    }
+    Ok(len)
 }
 
 // A TEXT that fits the name of a set.
-pub fn name(alloc: Global, field: &[u8]) -> Result<Vec<u8>, Why> {
-    let name = text(alloc, field)?;
-    if name.len() <= dots::NAME_MOST {
-        Ok(name)
+pub fn name(field: &[u8], out: &mut [u8]) -> Result<usize, Why> {
+    let len = text(field, out)?;
+    if len <= dots::NAME_MOST {
+        Ok(len)
     } else {
         Err(Why::LongName)
     }
@@ -161,13 +170,14 @@ fn dot(text: &[u8]) -> Result<Dot, Why> {
 }
 
 // DOTS, as the bytes that a context has.
-pub fn context(alloc: Global, field: &[u8]) -> Result<Vec<u8>, Why> {
-    let mut bytes = Vec::new(alloc);
+pub fn context(field: &[u8], out: &mut [u8]) -> Result<usize, Why> {
     if field == b"-".as_slice() {
-        return Ok(bytes);
+        return Ok(0);
     }
+    let mut len: usize = 0;
     for text in field.split(|b| *b == b',') {
-        bytes.extend_from_slice(&dots::dot_bytes(dot(text)?))?;
+        parts::put(out, len, &dots::dot_bytes(dot(text)?));
+        len = len.saturating_add(DOT_SIZE);
     }
-    Ok(bytes)
+    Ok(len)
 }

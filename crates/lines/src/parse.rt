@@ -4,11 +4,11 @@ ghost use Rattle.std.specs.Prelude.{◌<◌};
 use crate::fields::{
     buffer, byte, context, controller, hex, key_type, name, number, output, row, slot, text,
 };
-use crate::limits::LINE_MAX;
+use crate::limits::{ARGUMENTS_MAX, LINE_MAX};
 use crate::parts;
 use crate::why::{Refusal, Why};
 use dots::{Actor, Counter, Dot};
-use std::alloc::Global;
+use std::mem;
 
 // The place of a controller among all.
 #[derive(Clone, Copy)]
@@ -18,11 +18,11 @@ pub struct Place {
 }
 
 // What a poke sets: a field of a state, or a byte of a store.
-#[derive(Drop)]
-pub enum Poke {
+#[derive(Clone, Copy)]
+pub enum Poke<'a> {
     Used(u64),
     Actor(u8),
-    Name(Vec<u8>),
+    Name(&'a [u8]),
     NameLength(u64),
     Base { row: u8, base: u64 },
     Window { row: u8, window: u64 },
@@ -32,93 +32,93 @@ pub enum Poke {
 }
 
 // A command that changes a controller. Where a command has an output, `out` is its length.
-#[derive(Drop)]
-pub enum Change {
+#[derive(Clone, Copy)]
+pub enum Change<'a> {
     SetUp {
         actor: u8,
-        name: Vec<u8>,
+        name: &'a [u8],
     },
     Add {
-        label: Vec<u8>,
-        context: Vec<u8>,
+        label: &'a [u8],
+        context: &'a [u8],
         out: usize,
     },
     Remove {
-        context: Vec<u8>,
+        context: &'a [u8],
         out: usize,
     },
     Take {
-        message: Vec<u8>,
+        message: &'a [u8],
     },
     Compact,
     Load {
         actor: u8,
-        image: Vec<u8>,
+        image: &'a [u8],
     },
     Buffer {
         length: usize,
         fill: u8,
     },
-    Poke(Poke),
+    Poke(Poke<'a>),
 }
 
 // A command that reads a controller.
-#[derive(Drop)]
-pub enum Look {
+#[derive(Clone, Copy)]
+pub enum Look<'a> {
     List { out: usize },
-    Page { start: Vec<u8>, out: usize },
-    LookUp { label: Vec<u8> },
+    Page { start: &'a [u8], out: usize },
+    LookUp { label: &'a [u8] },
     Image { out: usize },
     State,
     Store,
 }
 
 // A command that needs no controller.
-#[derive(Drop)]
-pub enum Format {
+#[derive(Clone, Copy)]
+pub enum Format<'a> {
     Key {
         kind: u8,
-        name: Vec<u8>,
-        label: Vec<u8>,
+        name: &'a [u8],
+        label: &'a [u8],
         dot: Dot,
         out: usize,
     },
     ReadKey {
-        key: Vec<u8>,
+        key: &'a [u8],
     },
     ReadMessage {
-        message: Vec<u8>,
+        message: &'a [u8],
     },
 }
 
-#[derive(Drop)]
-pub enum Command {
-    Change(Change),
-    Look(Look),
+#[derive(Clone, Copy)]
+pub enum Command<'a> {
+    Change(Change<'a>),
+    Look(Look<'a>),
     Merge {
         first: Place,
         second: Place,
         out: usize,
     },
-    Format(Format),
+    Format(Format<'a>),
 }
 
 // A line: its controller, the command's word, and the command.
-#[derive(Drop)]
+#[derive(Clone, Copy)]
 pub struct Line<'a> {
     pub controller: Place,
     pub word: &'a [u8],
-    pub command: Command,
+    pub command: Command<'a>,
 }
 
 // ---- fields
 
-// The fields of a command that are left, and the number of the last one that was read.
+// The fields of a command that are left, the number of the last one that was read, and the arguments that are left for their bytes.
 #[derive(Drop)]
 struct Fields<'a> {
-    alloc: Global,
     rest: Option<&'a [u8]>,
     number: usize,
+    args: &'a mut [u8],
 }
 
 impl<'a> Fields<'a> {
@@ -161,15 +161,18 @@ impl<'a> Fields<'a> {
         kind(field).map_err(|why| self.refusal(why))
     }
 
-    // The same, of a field that stands for bytes.
-    fn read_bytes<F: FnOnce(Global, &[u8]) -> Result<Vec<u8>, Why>>(
+    // The bytes that the next field stands for.
+    fn read_bytes<F: FnOnce(&[u8], &mut [u8]) -> Result<usize, Why>>(
         &mut self,
         kind: F,
-    ) -> Result<Vec<u8>, Refusal>
+    ) -> Result<&'a [u8], Refusal>
         requires { F.IsAlwaysCallable kind }
     {
-        let alloc = self.alloc;
-        self.read(|field| kind(alloc, field))
+        let args = mem::take(&mut self.args);
+        let len = self.read(|field| kind(field, args))?.min(args.len());
+        let (bytes, rest) = args.split_at_mut(len);
+        self.args = rest;
+        Ok(bytes)
     }
 
     // A dot in two fields.
@@ -193,7 +196,7 @@ impl<'a> Fields<'a> {
 
 // ---- commands
 
-fn read_poke(fields: &mut Fields) -> Result<Poke, Refusal> {
+fn read_poke<'a>(fields: &mut Fields<'a>) -> Result<Poke<'a>, Refusal> {
     match fields.word()? {
         b"used" => Ok(Poke::Used(fields.read(number)?)),
         b"actor" => Ok(Poke::Actor(fields.read(byte)?)),
@@ -220,7 +223,7 @@ fn read_poke(fields: &mut Fields) -> Result<Poke, Refusal> {
     }
 }
 
-fn read_format(word: &[u8], fields: &mut Fields) -> Result<Format, Refusal> {
+fn read_format<'a>(word: &[u8], fields: &mut Fields<'a>) -> Result<Format<'a>, Refusal> {
     match word {
         b"key" => Ok(Format::Key {
             kind: fields.read(key_type)?,
@@ -240,7 +243,7 @@ fn read_format(word: &[u8], fields: &mut Fields) -> Result<Format, Refusal> {
     }
 }
 
-fn read_look(word: &[u8], fields: &mut Fields) -> Result<Option<Look>, Refusal> {
+fn read_look<'a>(word: &[u8], fields: &mut Fields<'a>) -> Result<Option<Look<'a>>, Refusal> {
     let look = match word {
         b"list" => Look::List {
             out: fields.read(output)?,
@@ -262,7 +265,7 @@ fn read_look(word: &[u8], fields: &mut Fields) -> Result<Option<Look>, Refusal> 
     Ok(Some(look))
 }
 
-fn read_change(word: &[u8], fields: &mut Fields) -> Result<Option<Change>, Refusal> {
+fn read_change<'a>(word: &[u8], fields: &mut Fields<'a>) -> Result<Option<Change<'a>>, Refusal> {
     let change = match word {
         b"setup" => Change::SetUp {
             actor: fields.read(byte)?,
@@ -295,7 +298,7 @@ fn read_change(word: &[u8], fields: &mut Fields) -> Result<Option<Change>, Refus
     Ok(Some(change))
 }
 
-fn read_merge(fields: &mut Fields) -> Result<Command, Refusal> {
+fn read_merge<'a>(fields: &mut Fields<'a>) -> Result<Command<'a>, Refusal> {
     Ok(Command::Merge {
         first: fields.read(controller)?,
         second: fields.read(controller)?,
@@ -304,7 +307,7 @@ fn read_merge(fields: &mut Fields) -> Result<Command, Refusal> {
 }
 
 // The command that a word and the fields after it give.
-fn read_command(word: &[u8], fields: &mut Fields) -> Result<Command, Refusal> {
+fn read_command<'a>(word: &[u8], fields: &mut Fields<'a>) -> Result<Command<'a>, Refusal> {
     if word == b"merge".as_slice() {
         return read_merge(fields);
     }
@@ -342,14 +345,17 @@ fn split_controller(text: &[u8]) -> Result<(Place, &[u8]), Why> {
     Ok((controller(at)?, body))
 }
 
-// Reads a line.
-pub fn read_line(alloc: Global, text: &[u8]) -> Result<Line<'_>, Refusal> {
+// Reads a line. The bytes that its fields stand for are put into the arguments.
+pub fn read_line<'a>(
+    text: &'a [u8],
+    args: &'a mut [u8; ARGUMENTS_MAX],
+) -> Result<Line<'a>, Refusal> {
     check_form(text)?;
     let (controller, body) = split_controller(text)?;
     let mut fields = Fields {
-        alloc,
         rest: Some(body),
         number: 0,
+        args,
     };
     let word = fields.next().unwrap_or_default();
     fields.number = 0;
@@ -368,12 +374,13 @@ mod tests {
 
     #[test]
     fn reads_a_line(rt: HostRuntime) -> Result<(), Refusal> {
-        let line = read_line(rt.alloc(), b"@3 take 0aff")?;
+        let mut args = [0u8; ARGUMENTS_MAX];
+        let line = read_line(b"@3 take 0aff", &mut args)?;
         assert_eq!(rt; line.controller.index, 3);
         assert_eq!(rt; line.word, b"take".as_slice());
         match &line.command {
             Command::Change(Change::Take { message }) => {
-                assert_eq!(rt; message.as_slice(), b"\x0a\xff".as_slice());
+                assert_eq!(rt; *message, b"\x0a\xff".as_slice());
             }
             _ => panic!(rt; "another command"),
         }
@@ -383,7 +390,8 @@ mod tests {
     #[test]
     fn refuses_a_field(rt: HostRuntime) {
         let why = Why::NoCounter;
-        let refusal = read_line(rt.alloc(), b"remove 1:2,3 100").err();
+        let mut args = [0u8; ARGUMENTS_MAX];
+        let refusal = read_line(b"remove 1:2,3 100", &mut args).err();
         assert_eq!(rt;
             refusal,
             Some(Refusal {

@@ -1,5 +1,5 @@
 // Parts of lent bytes.
-ghost use Rattle.std.specs.Prelude.{◌≤◌, length};
+ghost use Rattle.std.specs.Prelude.{◌≡◌, ◌≢◌, ◌≤◌, ◌++◌, ◌∷◌, All, IfSome, length, MatchOption};
 
 // The first n bytes, or all where there are fewer.
 pub fn front<'a>(s: &'a [u8], n: usize) -> &'a [u8]
@@ -16,7 +16,10 @@ pub fn from<'a>(s: &'a [u8], at: usize) -> &'a [u8]
 }
 
 // What stands before the first mark and after it, if there is one.
-pub(crate) fn split_once<'a>(s: &'a [u8], mark: u8) -> Option<(&'a [u8], &'a [u8])> {
+pub(crate) fn split_once<'a>(s: &'a [u8], mark: u8) -> Option<(&'a [u8], &'a [u8])>
+    ensures unmarked { MatchOption result (All (λ b. b ≢ mark) s.now) (λ p. All (λ b. b ≢ mark) p.0.now) }
+    ensures whole { IfSome result (λ p. s.now ≡ p.0.now ++ (mark ∷ p.1.now)) }
+{
     let at = s.iter().position(|b| *b == mark)?;
     Some((&s[..at], &s[at + 1..]))
 }

@@ -1,5 +1,4 @@
 // Why a line is no command, or cannot be carried out.
-use std::alloc::{AllocError, AllocFailed};
 use std::error::Error;
 use std::fmt;
 
@@ -27,7 +26,6 @@ pub enum Why {
     LongLine,
     LongInput,
     NoWord,
-    OutOfMemory,
 }
 
 impl Why {
@@ -55,7 +53,6 @@ impl Why {
             Why::LongLine => "line over 262144 bytes",
             Why::LongInput => "input over 2097152 bytes",
             Why::NoWord => "missing command",
-            Why::OutOfMemory => "out of memory",
         }
     }
 }
@@ -67,18 +64,6 @@ impl fmt::Display for Why {
 }
 
 impl Error for Why {}
-
-impl From<AllocError> for Why {
-    fn from(_error: AllocError) -> Why {
-        Why::OutOfMemory
-    }
-}
-
-impl<T: Drop> From<AllocFailed<T>> for Why {
-    fn from(_error: AllocFailed<T>) -> Why {
-        Why::OutOfMemory
-    }
-}
 
 // A reason, and the number of the field that it is about, if it is not about the whole line.
 #[derive(Clone, Copy, Debug, PartialEq, Eq)]

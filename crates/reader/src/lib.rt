@@ -15,6 +15,7 @@ struct Reader<'a> {
 
 impl<'a> Reader<'a> {
     // Where the key that it has come to ends, for a set name of n bytes; past the last key, and for a name too long, the end of the keys.
+    #[inline(always)]
     fn key_end(self, n: usize) -> usize
         ensures { result ≡ key_end self.entry.keys.now self.entry.at n }
     {
@@ -26,7 +27,8 @@ impl<'a> Reader<'a> {
     }
 }
 
-// The same at a place, by a reader that is made here.
+// The same at a place, by a reader that is made here. In line, since a walk finds the next key only through it: with a call a listing took up to 1.3 times as long.
+#[inline(always)]
 pub fn key_end(keys: &[u8], at: usize, n: usize) -> usize
     ensures { result ≡ key_end keys.now at n }
 {

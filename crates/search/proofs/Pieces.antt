@@ -76,6 +76,11 @@ module _ (a s : List ℕ) where
           let there : starts_with (drop j a) (drop j s) ≡ true = by_piece k j l ∙ rw (both_right f _ both, both_right (f && starts_with (part_at a j k) (drop j s)) _ t) in
           e ∙ rw (both_left f _ both, later j i h (omega arith) there)
 
+  -- one piece more
+  pub piece_more : (f : Bool) (k i : ℕ) → i + k ≤ length a → starts_with a s ≡ (f && starts_with (drop i a) (drop i s))
+      → starts_with a s ≡ ((f && starts_with (part_at a i k) (drop i s)) && starts_with (drop (i + k) a) (drop (i + k) s))
+  piece_more f k i h e = piece_on f k i i (omega arith) (omega arith) h e
+
   -- `f` decides up to a place that the last piece reaches: with it, all is decided
   pub piece_last : (f : Bool) (k i : ℕ) → k ≤ length a → length a ≤ i + k → i ≤ length a → starts_with a s ≡ (f && starts_with (drop i a) (drop i s))
       → (f && starts_with (part_at a (length a - k) k) (drop (length a - k) s)) ≡ starts_with a s

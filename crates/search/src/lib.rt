@@ -166,7 +166,24 @@ pub fn starts_near(a: &[u8], s: &[u8]) -> bool
     same_word(a, s, 0) & same_word(a, s, middle) & same_word(a, s, last)
 }
 
-// Whether s begins with a. What is asked has mostly 4 to 24 bytes, which go by pieces that may overlap: std's loop was tried there and is slower.
+// Whether s, which is no shorter, begins with a of 8 bytes or more: by words, the last of which ends with a. A loop by hand, as in `lower_words`.
+#[inline(never)]
+fn starts_words(a: &[u8], s: &[u8]) -> bool
+    requires { (8 ≤ length a.now) × (length a.now ≤ length s.now) }
+    ensures { result ≡ starts_with a.now s.now }
+{
+    let n = a.len();
+    let mut i = 0;
+    while i + 8 <= n {
+        if !same_word(a, s, i) {
+            return false;
+        }
+        i += 8;
+    }
+    same_word(a, s, n - 8)
+}
+
+// Whether s begins with a. What is asked has mostly 4 to 24 bytes, which go by pieces that may overlap, and longer ones by words: std's loop was tried there and is slower.
 pub fn starts_with(a: &[u8], s: &[u8]) -> bool
     ensures { result ≡ starts_with a.now s.now }
 {
@@ -177,6 +194,7 @@ pub fn starts_with(a: &[u8], s: &[u8]) -> bool
     match n {
         4..=8 => same_half(a, s, 0) & same_half(a, s, n - 4),
         9..=24 => starts_near(a, s),
+        25.. => starts_words(a, s),
         _ => s.starts_with(a),
     }
 }

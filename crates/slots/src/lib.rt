@@ -47,6 +47,10 @@ impl<'a> SlottedDots<'a> {
     pub fn holds(self, dot: dots::Dot) -> bool
         ensures { result ≡ member compare_dots dot (dots_of self.entry.dots.now) }
     {
+        // Mostly there are no dots; then not even the slot is looked up.
+        if self.dots.len() < dots::DOT_SIZE {
+            return false;
+        }
         if self.slots[slot_of(dot)] == 0 {
             return false;
         }

@@ -78,8 +78,7 @@ module _ (st : State) (store label context : Bytes) (d : Dot) (m : MayApply st s
   may-store low front unseen =
       let k = kept st m.joins.state-ok in
       record {
-        size = m.sized.name-size;
-        short = k.short;
+        short = let size = m.sized.name-size in let few = k.short in omega arith;
         named = k.named;
         labelled = m.labelled;
         room_for = m.room_for unseen;

@@ -9,7 +9,7 @@ use Rattle.dots.specs.declared.Answer.TheVariants.{Done, Damaged, BadName, BadDo
 use Rattle.dots.specs.Wire.{dots_bytes, dots_of, dot_size, tombstone_size}
 use Rattle.dots.specs.declared.Actor.{Actor}
 use Rattle.dots.specs.declared.Dot.{Dot}
-use Rattle.dots.specs.Names.{Label, name_ok, label_ok, name_most}
+use Rattle.dots.specs.Names.{Label, name_ok, label_ok}
 use Rattle.dots.specs.Entries.{entry}
 use Rattle.dots.specs.Dots.{Context, dot_of, dot_ok, compare_actors, compare_dots, ascending_dots, context_most, tombstone_most}
 use Rattle.clock.specs.Row.{window_width}
@@ -169,8 +169,7 @@ pub record Joined (words : List ℕ) (tombstone : Tombstone) (context : Bytes) (
 
 -- what the key of a label counts on that is put into a store; the keys of the label do not stand in its first `low` bytes
 pub record EntryFits (st : State) (store label : Bytes) (low : ℕ) : Type 0 where
-  pub size : length st.name.bytes ≡ name_most
-  pub short : st.name.len ≤ name_most
+  pub short : st.name.len ≤ length st.name.bytes
   pub named : name_ok (name_of st) ≡ true
   pub labelled : label_ok label ≡ true
   pub room_for : st.used + (st.name.len + length label + label_key_fixed) ≤ length store

@@ -241,6 +241,6 @@ pub fn store_add(
     if seen {
         return state.used;
     }
-    let name = &state.name.bytes[..state.name.len];
-    store::insert_entry(store, state.used, name, label, dot, low)
+    let name = state.name.bytes;
+    store::insert_entry(store, state.used, &name[..state.name.len], label, dot, low)
 }

@@ -1,6 +1,6 @@
 -- One turn of a walk over keys end to end: the key at `at`, whose length was read of the part `&keys[at..]`. Assumes nothing.
-use Rattle.std.proofs.Common.{◌≡◌, ℕ, ◌+◌, ◌-◌, ◌^◌, ◌<◌, ◌≤◌, Bool, true, List, ◌∷◌, length, take, drop, arith, length-drop, length-take-le, w64, Fits}
-use Rattle.store.specs.Cut.{key_length, keys_of}
+use Rattle.std.proofs.Common.{◌≡◌, ℕ, ◌+◌, ◌-◌, ◌^◌, ◌<◌, ◌≤◌, Bool, true, false, List, ◌∷◌, length, take, drop, arith, length-drop, drop_of_length-le, length-take-le, w64, Fits}
+use Rattle.store.specs.Cut.{key_length, keys_after, keys_of}
 use Rattle.store.specs.Place.{length_while}
 use Rattle.wire.specs.Lists.{all}
 use Rattle.wire.proofs.Tests.{both_left, both_right}
@@ -49,9 +49,20 @@ module _ (n : ℕ) (keys : List ℕ) (at len : ℕ) (more : at < length keys) (r
     is-tested : r ≡ test (take len (drop at keys))
     is-tested = rw size-part at tested
 
+    pub while_left : r ≡ false → at ≡ length_while test (keys_of n keys)
+    unfolding length_while
+    while_left d =
+        let here : length_while test (keys_of n (drop at keys)) ≡ 0 = rw (first_key_lem, ← is-tested, d) in
+        omega arith
+
     pub while_passed : r ≡ true → length_while test (keys_of n keys) ≡ at + len + length_while test (keys_of n (drop (at + len) keys))
     unfolding length_while
     while_passed d =
         let there : length_while test (keys_of n (drop at keys)) ≡ len + length_while test (keys_of n (drop (at + len) keys)) =
         rw (first_key_lem, ← is-tested, d, key-size) in
         omega arith
+
+pub while_ended : (test : List ℕ → Bool) (n : ℕ) (keys : List ℕ) (at : ℕ) → length keys ≤ at
+    → length_while test (keys_of n keys) ≡ at + length_while test (keys_of n (drop at keys)) → at ≡ length_while test (keys_of n keys)
+unfolding length_while keys_after
+while_ended test n keys at h inv = omega (arith, rw (drop_of_length-le keys h) at inv)

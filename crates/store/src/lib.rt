@@ -462,6 +462,8 @@ impl<'a> Iterator for Keys<'a> {
 
     ghost remaining = { item_count (λ s. keys_of s.n s.rest.now) };
 
+    // In line: with a call, a lookup of a label with thousands of keys took 1.1 to 1.2 times as long.
+    #[inline(always)]
     fn next(&mut self) -> Option<&'a [u8]> {
         let rest = self.rest;
         if rest.is_empty() {

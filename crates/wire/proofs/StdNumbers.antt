@@ -9,11 +9,11 @@ use lib.Arith.{mod-mul, digits_div, digits_mod}
 use lib.ListN.{length, take, drop, get_or}
 use lib.Seq.{take-suc, take_all, length-take-le}
 use mir.Syntax.{Width, w8, w16, w32, w64, w128}
-use Rattle.std.specs.Int.{byte_len, byte_worth, byte_at, bytes_high_first, sum_through, from_le_bytes, from_be_bytes, to_be_bytes}
-use Rattle.wire.specs.Bytes.{big_endian, from_big_endian, number_at, from_little_endian, low_number_at}
+use Rattle.std.specs.Int.{byte_len, byte_worth, byte_at, bytes_high_first, sum_through, from_le_bytes, from_be_bytes, to_be_bytes, swap_bytes}
+use Rattle.wire.specs.Bytes.{big_endian, from_big_endian, number_at, little_endian, from_little_endian, low_number_at}
 use Rattle.wire.proofs.BigEndian.{from_snoc, pow_pos_256}
 use Rattle.wire.proofs.Fields.{part_length}
-use Rattle.wire.proofs.LittleEndian.{low-append}
+use Rattle.wire.proofs.LittleEndian.{low-append, swapped-word}
 
 -- a number has a byte
 size : (w : Width) → suc (byte_len w - 1) ≡ byte_len w
@@ -84,6 +84,16 @@ high-bytes (suc k) n =
 
 pub to_be : (w : Width) (n : ℕ) → n < 256 ^ byte_len w → to_be_bytes w n ≡ big_endian (byte_len w) n
 to_be w n small = high-bytes (byte_len w) n ∙ ap (big_endian (byte_len w)) (mod-eq_of_lt small)
+
+-- ---- swapped
+
+-- std swaps byte by byte: the sum of the bytes, each at the other end
+pub std-swapped : (w : ℕ) → w < 2 ^ 64 → swap_bytes w64 w ≡ from_big_endian (little_endian 8 w)
+std-swapped w h =
+    let top : w / 72057594037927936 % 256 ≡ w / 72057594037927936 = mod-eq_of_lt (omega arith) in
+    let front : ℕ = w % 256 * 72057594037927936 + w / 256 % 256 * 281474976710656 + w / 65536 % 256 * 1099511627776 + w / 16777216 % 256 * 4294967296
+    + w / 4294967296 % 256 * 16777216 + w / 1099511627776 % 256 * 65536 + w / 281474976710656 % 256 * 256 in
+    ap (λ (x : ℕ). front + x) top ∙ swapped-word w h
 
 -- ---- as the code calls them: numbers read at a place
 

@@ -82,12 +82,12 @@ pub fn half_at(s: &[u8], at: usize) -> u64
     u64::from(u32::from_be_bytes(bytes_at(s, at)))
 }
 
-// The number in the 8 bytes from a place on.
+// The number in the 8 bytes from a place on: the word with its bytes swapped.
 pub fn number_at(s: &[u8], at: usize) -> u64
     requires { at + 8 ≤ length s.now }
     ensures { result ≡ number_at 8 s.now at }
 {
-    u64::from_be_bytes(bytes_at(s, at))
+    low_at(s, at).swap_bytes()
 }
 
 // A number in 8 bytes.

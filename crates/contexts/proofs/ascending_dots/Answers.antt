@@ -1,18 +1,23 @@
-use mathlib.Core.Path.{◌≡◌, ◌∙◌, ap₂}
-use Rattle.dots.specs.Dots.{actor_of, dot_of, zero_dot}
+use mathlib.Core.Path.{◌≡◌, sym, ap, ap₂, ◌∙◌}
+use mathlib.Core.List.{List}
+use Prim.Native.Nat.{ℕ}
+use Rattle.dots.specs.Dots.{actor_of, dot_of, zero_dot, ascending_dots}
 use Rattle.dots.specs.Wire.{dots_of}
-use Rattle.dots.proofs.Rules.{ascending-is, lower-is}
-use Rattle.dots.proofs.Iterating.{ascend_turn, ascend_end}
+use Rattle.dots.proofs.Rules.{ascend_after, ascending-is}
+use Rattle.dots.proofs.Loops.{left, dots-start, ascend-turn, ascend-end}
+use borrow.Author.Rules.{rules}
 use Rattle.contexts.proofs.ascending_dots.Goals as goal
 
-pub loop-dot-init : goal.loop-dot-init
-loop-dot-init c =
-    let left : dots_of c.into_iter-dot-iterator.result.bytes.now ≡ dots_of c.args.dots.now = cc in
-    let zero : c.default-before.result ≡ zero_dot = ap₂ (λ a n. dot_of (actor_of a) n) c.default-before.ensures.0 c.default-before.ensures.1 in
-    rw (left, zero) (ascending-is (dots_of c.args.dots.now))
+start : (s : List ℕ) → ascending_dots (dots_of s) ≡ ascend_after zero_dot (left s 0)
+start s = ascending-is (dots_of s) ∙ ap (ascend_after zero_dot) (sym (dots-start s))
 
-pub loop-dot-preserved : goal.loop-dot-preserved
-loop-dot-preserved c = ascend_turn _ _ _ _ c.loop-dot.invariant _ _ _ _ c.in-Some.ensures.steps c.dot_ok.ensures (c.lt.ensures ∙ lower-is c.loop-dot.before c.in-Some.dot)
+pub loop-i-init : goal.loop-i-init
+loop-i-init c =
+    let zero : c.default-before.result ≡ zero_dot = ap₂ (λ a n. dot_of (actor_of a) n) c.default-before.ensures.0 c.default-before.ensures.1 in
+    rw zero (start c.args.dots.now)
+
+pub loop-i-preserved : goal.loop-i-preserved
+loop-i-preserved c = search (rules, ascend-turn)
 
 pub returns : goal.returns
-returns c = ascend_end _ _ _ _ c.loop-dot.invariant c.in-None.ensures.steps.0
+returns c = search (rules, ascend-end)

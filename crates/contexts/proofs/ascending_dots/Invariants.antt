@@ -4,7 +4,8 @@ use mathlib.Core.Bool.{◌&&◌}
 use Rattle.dots.specs.Dots.{ascending_dots}
 use Rattle.dots.specs.Wire.{dots_of}
 use Rattle.dots.proofs.Rules.{ascend_after}
+use Rattle.dots.proofs.Loops.{left}
 use Rattle.contexts.proofs.ascending_dots.Given as goal
 
-abbrev pub invariant-loop-dot : goal.invariant-loop-dot
-invariant-loop-dot l = ascending_dots (dots_of l.dots) ≡ (l.ok && ascend_after l.before (dots_of l.dot-iterator.bytes.now))
+abbrev pub invariant-loop-i : goal.invariant-loop-i
+invariant-loop-i l = ascending_dots (dots_of l.dots) ≡ (l.ok && ascend_after l.before (left l.dots l.i))
