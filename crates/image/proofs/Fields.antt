@@ -60,7 +60,19 @@ module _ (s : Bytes) (small : AreBytes s) (long : 4 ≤ length s) (crc last : �
 -- ---- the state of the fields
 
 module _ (s : Bytes) (l : ImageLayout) where
-  pub state-made : (st : State) (name words bytes : List ℕ) (actor : ℕ) → st ≡ fresh_state 0 [] → name ≡ put_at st.name.bytes 0 (part_of s l.name) → words ≡ clock_in window_size actor_most s l.rows
+  pub state-made : (name words bytes : List ℕ) (actor : ℕ) → name ≡ padded name_most (part_of s l.name) → words ≡ clock_in window_size actor_most s l.rows → bytes ≡ padded tombstone_size (part_of s l.dots)
+      → ◌≡◌ {A = State} (record {
+        actor = actor_of actor;
+        name = record { bytes = name; len = l.name.len };
+        clock = record { words = words };
+        tombstone = record { bytes = bytes; count = l.count };
+        used = l.keys.len;
+      }) (state_at actor s l)
+  unfolding state_at
+  state-made name words bytes actor named clock removed = rw (named, clock, removed)
+
+  -- the same, made in place of a state that is zero throughout
+  pub state-put : (st : State) (name words bytes : List ℕ) (actor : ℕ) → st ≡ fresh_state 0 [] → name ≡ put_at st.name.bytes 0 (part_of s l.name) → words ≡ clock_in window_size actor_most s l.rows
       → bytes ≡ put_at st.tombstone.bytes 0 (part_of s l.dots)
       → ◌≡◌ {A = State} (record {
         actor = actor_of actor;
@@ -69,15 +81,18 @@ module _ (s : Bytes) (l : ImageLayout) where
         tombstone = record { bytes = bytes; count = l.count };
         used = l.keys.len;
       }) (state_at actor s l)
-  unfolding state_at dots_bytes
-  state-made st name words bytes actor zero named clock removed =
-      let named' : name ≡ padded name_most (part_of s l.name) = put-zeros name_most (part_of s l.name) name (rw zero at named) in
-      let removed' : bytes ≡ padded tombstone_size (part_of s l.dots) = put-zeros tombstone_size (part_of s l.dots) bytes (rw zero at removed) in
-      rw (named', clock, removed')
+  unfolding dots_bytes
+  state-put st name words bytes actor zero named clock removed =
+      state-made name words bytes actor (put-zeros name_most (part_of s l.name) name (rw zero at named)) clock (put-zeros tombstone_size (part_of s l.dots) bytes (rw zero at removed))
 
   -- the keys judged where they stand
-  pub judged : (st : State) (keys : Bytes) (r : Bool) → st ≡ written_at s l → keys ≡ part_of s l.keys → r ≡ damaged st keys → r ≡ damaged (written_at s l) (part_of s l.keys)
-  judged st keys r e k j = j ∙ rw (e, k)
+  pub judged-written : (st : State) (keys : Bytes) (r : Bool) → st ≡ written_at s l → keys ≡ part_of s l.keys → r ≡ damaged st keys → r ≡ damaged (written_at s l) (part_of s l.keys)
+  judged-written st keys r e k j = j ∙ rw (e, k)
+
+  -- the same of a state under an actor that is the writer
+  pub judged : (writer : ℕ) (st : State) (keys : Bytes) (r : Bool) → writer ≡ byte_at s l.actor → st ≡ state_at writer s l → keys ≡ part_of s l.keys → r ≡ damaged st keys
+      → r ≡ damaged (written_at s l) (part_of s l.keys)
+  judged writer st keys r w e k j = judged-written st keys r (rw w at e) k j
 
 -- more dots than a tombstone may have are damage
 pub too_many : (s : Bytes) (l : ImageLayout) → tombstone_most < l.count → true ≡ damaged (written_at s l) (part_of s l.keys)
@@ -87,12 +102,17 @@ too_many s l many = by (damaged (written_at s l) (part_of s l.keys)) (few-dots (
     by true few = refl
     by false few = absurd (omega (arith, few refl))
 
--- what loading leaves: the writer's state under the new actor, and the keys at their place
-pub load-made : (actor : ℕ) (s store store' keys : Bytes) (l : ImageLayout) (st : State) → st ≡ written_at s l → keys ≡ part_of s l.keys → store' ≡ put_at store 0 keys
-    → LoadsImage (loaded_at actor s store l) store' (record { answer = Done; state = record st { actor = actor_of actor } })
-unfolding state_at
+-- what loading leaves: state and keys at their places
+pub load-made : (actor : ℕ) (s store store' keys : Bytes) (l : ImageLayout) (st : State) → st ≡ state_at actor s l → keys ≡ part_of s l.keys → store' ≡ put_at store 0 keys
+    → LoadsImage (loaded_at actor s store l) store' (record { answer = Done; state = st })
 load-made actor s store store' keys l st e k f = record {
   answered = refl;
-  state-is = rw e;
+  state-is = e;
   store_is = f ∙ put_front store keys ∙ rw k;
 }
+
+-- the same, of the writer's state under the new actor
+pub load-put : (actor : ℕ) (s store store' keys : Bytes) (l : ImageLayout) (st : State) → st ≡ written_at s l → keys ≡ part_of s l.keys → store' ≡ put_at store 0 keys
+    → LoadsImage (loaded_at actor s store l) store' (record { answer = Done; state = record st { actor = actor_of actor } })
+unfolding state_at
+load-put actor s store store' keys l st e k f = load-made actor s store store' keys l (record st { actor = actor_of actor }) (rw e) k f

@@ -2,7 +2,7 @@
 use Prim.Native.Nat.{ℕ, ◌≤◌}
 use mathlib.Core.Path.{◌≡◌, refl, sym, ap, ◌∙◌}
 use mathlib.Core.Bool.{Bool, true, false, cond, not}
-use mathlib.Core.List.{[], ◌∷◌, ◌++◌}
+use mathlib.Core.List.{List, [], ◌∷◌, ◌++◌}
 use lib.Dec.{ltb}
 use lib.ListN.{length}
 use borrow.Author.Rules.{rules}
@@ -25,15 +25,19 @@ use Rattle.calls.specs.declared.SetUp.{SetUp}
 use Rattle.calls.specs.declared.ImageLayout.{ImageLayout}
 use Rattle.calls.specs.Damage.{damaged}
 use Rattle.calls.specs.Calls.{fresh_state}
-use Rattle.calls.specs.ImageRead.{version_ok, layout_of, shape_ok, Within, crc_ok, clock_in, state_at, written_at, free_of, writer_ok}
+use Rattle.calls.specs.ImageRead.{version_ok, layout_of, shape_ok, Within, crc_ok, clock_in, state_at, written_at, writer_at, free_of, actor_free, writer_ok}
 use Rattle.calls.specs.HandOff.{load_refusals, loaded_at, load_result}
-use Rattle.calls.proofs.ImageShapes.{shape-within, short-name}
+use Rattle.calls.proofs.ImageShapes.{shape-within, short-name, few-dots}
 use Rattle.image.specs.Sizes.{window_size}
 use Rattle.image.specs.Loading.{Small, Named, Loadable, field_refusals, early_refusals, late_refusals, checked_refusals, fields_result}
 use Rattle.image.specs.Promise.{LoadsImage}
 use Rattle.image.proofs.Fields.{too_many}
 
 -- ---- the answers
+
+-- where the writer's name and actor keep their rule, the name is short
+named-where : {s : Bytes} {l : ImageLayout} → Small l → Within s l → writer_ok s l ≡ true → Named s l
+named-where {s} {l} small within right = record { small = small; within = within; short-name = short-name s l within (both_left _ _ right) }
 
 module _ (s : Bytes) (l : ImageLayout) where
   pub late-table : (room : ℕ) (damage : Bool) (r : Result Unit Answer) → damage ≡ damaged (written_at s l) (part_of s l.keys) → r ≡ passed (first_of ((damage, BadDot) ∷ (ltb room l.keys.len, StoreFull) ∷ []))
@@ -47,6 +51,31 @@ module _ (s : Bytes) (l : ImageLayout) where
   unfolding state_at
   field-table actor writer crc free named r c w f n e = e ∙ rw (c, f, w, n)
 
+  -- the first three of them, and what follows where none of the three holds
+  module _ (actor room writer : ℕ) (words : List ℕ) (crc free named : Bool) (c : crc ≡ crc_ok s) (w : writer ≡ byte_at s l.actor) (clock : words ≡ clock_in window_size actor_most s l.rows)
+      (f : free ≡ free_of actor writer words) (n : named ≡ writer_ok s l) (q : Result Unit Answer)
+      (is : q ≡ passed (first_of ((not crc, BadChecksum) ∷ (not free, ActorTaken) ∷ (not named, BadName) ∷ []))) where
+    abbrev checks : Refusals
+    checks = (not crc, BadChecksum) ∷ (not free, ActorTaken) ∷ (not named, BadName) ∷ []
+
+    free-is : free ≡ actor_free actor s l
+    unfolding state_at
+    free-is = f ∙ rw (w, clock)
+
+    checked : passed (first_of (checks ++ late_refusals room s l)) ≡ passed (first_of (checked_refusals actor room s l))
+    checked = rw (← c, ← free-is, ← n)
+
+    pub checked_refused : (a : Answer) → q ≡ Err a → Err a ≡ passed (first_of (checked_refusals actor room s l))
+    checked_refused a e = rows-stop checks (late_refusals room s l) a (sym e ∙ is) ∙ checked
+
+    pub checked-late : (u : Unit {0}) → q ≡ Ok u → (r : Result Unit Answer) → r ≡ passed (first_of (late_refusals room s l)) → r ≡ passed (first_of (checked_refusals actor room s l))
+    checked-late u e r h = rows-pass checks (late_refusals room s l) u r (search rules) (sym e ∙ is) h ∙ checked
+
+    pub checked-named : (u : Unit {0}) → q ≡ Ok u → Small l → Within s l → Named s l
+    checked-named u e small within =
+        let none : NoneHolds checks = none-holds checks (search rules) (passed-is (first_of checks) u (sym e ∙ is)) in
+        named-where small within (sym n ∙ not-false named none.1.1.0)
+
   -- the tests up to the shape
   module _ (actor : ℕ) (store : Bytes) (mark version shape : Bool) (fields : l ≡ layout_of s) (m : mark ≡ mark_ok s) (v : version ≡ version_ok s) (p : shape ≡ shape_ok s l) (q : Result Unit Answer)
       (is : q ≡ passed (first_of ((ltb store_most (length store), Damaged) ∷ (not mark, NoMark) ∷ (not version, BadVersion) ∷ (not shape, BadShape) ∷ []))) where
@@ -54,16 +83,29 @@ module _ (s : Bytes) (l : ImageLayout) where
     tests = (ltb store_most (length store), Damaged) ∷ (not mark, NoMark) ∷ (not version, BadVersion) ∷ (not shape, BadShape) ∷ []
 
     abbrev rest : Refusals
-    rest = field_refusals actor s l
+    rest = checked_refusals actor (length store) s l
 
-    every : passed (first_of (tests ++ rest)) ≡ passed (first_of (early_refusals actor s store))
+    every : passed (first_of (tests ++ rest)) ≡ passed (first_of (load_refusals actor s store))
     every = rw (← fields, ← m, ← v, ← p)
 
-    pub load-refused : (a : Answer) → q ≡ Err a → Err a ≡ passed (first_of (early_refusals actor s store))
+    pub load-refused : (a : Answer) → q ≡ Err a → Err a ≡ passed (first_of (load_refusals actor s store))
     load-refused a e = rows-stop tests rest a (sym e ∙ is) ∙ every
 
-    pub load-checked : (u : Unit {0}) → q ≡ Ok u → (r : Result Unit Answer) → r ≡ passed (first_of rest) → r ≡ passed (first_of (early_refusals actor s store))
+    pub load-checked : (u : Unit {0}) → q ≡ Ok u → (r : Result Unit Answer) → r ≡ passed (first_of rest) → r ≡ passed (first_of (load_refusals actor s store))
     load-checked u e r h = rows-pass tests rest u r (search rules) (sym e ∙ is) h ∙ every
+
+    -- the same with the rows that are told from the fields
+    abbrev early : Refusals
+    early = field_refusals actor s l
+
+    every-early : passed (first_of (tests ++ early)) ≡ passed (first_of (early_refusals actor s store))
+    every-early = rw (← fields, ← m, ← v, ← p)
+
+    pub early-refused : (a : Answer) → q ≡ Err a → Err a ≡ passed (first_of (early_refusals actor s store))
+    early-refused a e = rows-stop tests early a (sym e ∙ is) ∙ every-early
+
+    pub early-checked : (u : Unit {0}) → q ≡ Ok u → (r : Result Unit Answer) → r ≡ passed (first_of early) → r ≡ passed (first_of (early_refusals actor s store))
+    early-checked u e r h = rows-pass tests early u r (search rules) (sym e ∙ is) h ∙ every-early
 
     pub load-within : (u : Unit {0}) → q ≡ Ok u → Within s l
     load-within u e =
@@ -93,11 +135,14 @@ module _ (actor : ℕ) (s store : Bytes) where
   whole : first_of (early_refusals actor s store ++ late) ≡ first_of (load_refusals actor s store)
   whole = rw (after-shape actor (length store) s (layout_of s))
 
-  pub not_loaded : (a : Answer) → Err a ≡ passed (first_of (early_refusals actor s store)) → (st : State) → st ≡ fresh_state 0 [] → LoadsImage (load_result actor s store) store (record { answer = a; state = st })
+  pub not_loaded : (a : Answer) → Err a ≡ passed (first_of (load_refusals actor s store)) → (st : State) → st ≡ fresh_state 0 [] → LoadsImage (load_result actor s store) store (record { answer = a; state = st })
   unfolding load_result
   not_loaded a h st zero =
-      let r = refused-is a (first_of (load_refusals actor s store)) (rows-stop (early_refusals actor s store) late a h ∙ ap passed whole) in
+      let r = refused-is a (first_of (load_refusals actor s store)) h in
       rw (← r.0, ne_eqb (number_of a) 0 r.1) (record { answered = refl; state-is = zero; store_is = refl })
+
+  pub early-not_loaded : (a : Answer) → Err a ≡ passed (first_of (early_refusals actor s store)) → (st : State) → st ≡ fresh_state 0 [] → LoadsImage (load_result actor s store) store (record { answer = a; state = st })
+  early-not_loaded a h st zero = not_loaded a (rows-stop (early_refusals actor s store) late a h ∙ ap passed whole) st zero
 
   module _ (q : Result Unit Answer) (e : q ≡ passed (first_of (early_refusals actor s store))) (u : Unit {0}) (z : q ≡ Ok u) (l : ImageLayout) (is : l ≡ layout_of s) where
     -- where no early refusal holds
@@ -107,8 +152,7 @@ module _ (actor : ℕ) (s store : Bytes) where
     pub early-named : Small l → Named s l
     early-named small =
         let within : Within s l = rw is (shape-within s (not-false _ none-early.1.1.1.0)) in
-        let right : writer_ok s l ≡ true = rw is (not-false _ none-early.1.1.1.1.1.1.0) in
-        record { small = small; within = within; short-name = short-name s l within (both_left _ _ right) }
+        named-where small within (rw is (not-false _ none-early.1.1.1.1.1.1.0))
 
     pub early-few : l.count ≤ tombstone_most
     early-few = rw is (ltb-false tombstone_most (layout_of s).count none-early.1.1.1.1.1.1.1.0)
@@ -119,6 +163,29 @@ module _ (actor : ℕ) (s store : Bytes) where
     pub early-loaded : (store' : Bytes) (r : SetUp) → LoadsImage (fields_result actor s store l) store' r → LoadsImage (load_result actor s store) store' r
     unfolding load_result
     early-loaded store' r done = rw (← late-whole) (rw is at done)
+
+  -- where no refusal of the call holds
+  module _ (q : Result Unit Answer) (e : q ≡ passed (first_of (load_refusals actor s store))) (l : ImageLayout) (is : l ≡ layout_of s) (u : Unit {0}) (z : q ≡ Ok u) where
+    zero : number_of (first_of (load_refusals actor s store)) ≡ 0
+    zero = passed-is (first_of (load_refusals actor s store)) u (sym z ∙ e)
+
+    pub loaded : (store' : Bytes) (r : SetUp) → LoadsImage (loaded_at actor s store l) store' r → LoadsImage (load_result actor s store) store' r
+    unfolding load_result
+    loaded store' r done = rw (eq-eqb (number_of (first_of (load_refusals actor s store))) 0 zero) (rw is at done)
+
+    none-left : NoneHolds (load_refusals actor s store)
+    none-left = none-holds (load_refusals actor s store) (search rules) zero
+
+    pub loaded-named : Small l → Named s l
+    loaded-named small =
+        let within : Within s l = rw is (shape-within s (not-false _ none-left.1.1.1.0)) in
+        named-where small within (rw is (not-false _ none-left.1.1.1.1.1.1.0))
+
+    pub loadable : Loadable l (length store)
+    loadable =
+        let whole : damaged (written_at s l) (part_of s l.keys) ≡ false = rw is none-left.1.1.1.1.1.1.1.0 in
+        let room : ltb (length store) l.keys.len ≡ false = rw is none-left.1.1.1.1.1.1.1.1.0 in
+        record { few = few-dots (writer_at s l) s l (part_of s l.keys) whole; fits = ltb-false (length store) l.keys.len room }
 
 -- ---- the fields
 
@@ -132,8 +199,8 @@ module _ (actor : ℕ) (s store : Bytes) (l : ImageLayout) where
     zero-late : number_of (first_of (late_refusals (length store) s l)) ≡ 0
     zero-late = passed-is (first_of (late_refusals (length store) s l)) u (sym z ∙ e)
 
-    pub loadable : l.count ≤ tombstone_most → Loadable l (length store)
-    loadable few = record { few = few; fits = ltb-false (length store) l.keys.len (none-holds (late_refusals (length store) s l) (search rules) zero-late).1.0 }
+    pub late-loadable : l.count ≤ tombstone_most → Loadable l (length store)
+    late-loadable few = record { few = few; fits = ltb-false (length store) l.keys.len (none-holds (late_refusals (length store) s l) (search rules) zero-late).1.0 }
 
     pub late-loaded : (store' : Bytes) (r : SetUp) → LoadsImage (loaded_at actor s store l) store' r → LoadsImage (fields_result actor s store l) store' r
     late-loaded store' r done = rw (eq-eqb (number_of (first_of (late_refusals (length store) s l))) 0 zero-late) done

@@ -1,4 +1,8 @@
 // Why a line is no command, or cannot be carried out.
+ghost use Rattle.std.specs.Prelude.{◌≡◌};
+ghost use Rattle.lines.specs.declared.why.Why.TheVariants.{OutOfMemory};
+
+use std::alloc::{AllocError, AllocFailed};
 use std::error::Error;
 use std::fmt;
 
@@ -26,6 +30,7 @@ pub enum Why {
     LongLine,
     LongInput,
     NoWord,
+    OutOfMemory,
 }
 
 impl Why {
@@ -53,6 +58,7 @@ impl Why {
             Why::LongLine => "line over 262144 bytes",
             Why::LongInput => "input over 2097152 bytes",
             Why::NoWord => "missing command",
+            Why::OutOfMemory => "out of memory",
         }
     }
 }
@@ -64,6 +70,23 @@ impl fmt::Display for Why {
 }
 
 impl Error for Why {}
+
+// No line is read with an allocation; these are for a caller that makes one.
+impl From<AllocError> for Why {
+    ghost from_gives = { λ _ why. why ≡ OutOfMemory };
+
+    fn from(_error: AllocError) -> Why {
+        Self::OutOfMemory
+    }
+}
+
+impl<T: Drop> From<AllocFailed<T>> for Why {
+    ghost from_gives = { λ _ why. why ≡ OutOfMemory };
+
+    fn from(_error: AllocFailed<T>) -> Why {
+        Why::from(AllocError)
+    }
+}
 
 // A reason, and the number of the field that it is about, if it is not about the whole line.
 #[derive(Clone, Copy, Debug, PartialEq, Eq)]
@@ -90,3 +113,29 @@ impl fmt::Display for Refusal {
 }
 
 impl Error for Refusal {}
+
+#[cfg(test)]
+mod tests {
+    use super::*;
+    use std::alloc::Global;
+
+    // An empty vector with room for as many bytes as asked, where there is memory for them.
+    fn room(alloc: Global, len: usize) -> Result<Vec<u8>, Why> {
+        Ok(Vec::with_capacity(alloc, len)?)
+    }
+
+    // The bytes with one more behind them.
+    fn pushed(mut bytes: Vec<u8>) -> Result<Vec<u8>, Why> {
+        bytes.push(1)?;
+        Ok(bytes)
+    }
+
+    #[test]
+    fn tells_that_there_is_no_memory(rt: HostRuntime) -> Result<(), Why> {
+        assert_eq!(rt; room(rt.alloc(), usize::MAX).err(), Some(Why::OutOfMemory));
+        assert_eq!(rt; pushed(room(rt.alloc(), 1)?)?.len(), 1);
+        let failed = AllocFailed { value: 1u8 };
+        assert_eq!(rt; Why::from(failed), Why::OutOfMemory);
+        Ok(())
+    }
+}

@@ -1,5 +1,5 @@
 -- A late refusal, or what loading leaves.
-use Rattle.image.proofs.Tables.{late-refused, late-loaded, loadable}
+use Rattle.image.proofs.Tables.{late-refused, late-loaded, late-loadable}
 use borrow.Author.Rules.{rules}
 use Rattle.image.proofs.load_fields.Goals as goal
 
@@ -8,7 +8,7 @@ returns-in-Err c = late-refused c.args.actor c.args.image.bytes.now c.args.store
 
 pub load_done-requires : goal.load_done-requires
 load_done-requires c =
-    (loadable c.args.actor c.args.image.bytes.now c.args.store.now c.args.image.places _ c.late_answer.ensures _ c.in_default.is c.requires.1, search rules)
+    (late-loadable c.args.actor c.args.image.bytes.now c.args.store.now c.args.image.places _ c.late_answer.ensures _ c.in_default.is c.requires.1, search rules)
 
 pub returns : goal.returns
 returns c = late-loaded c.args.actor c.args.image.bytes.now c.args.store.now c.args.image.places _ c.late_answer.ensures _ c.in_default.is _ _ c.load_done.ensures
